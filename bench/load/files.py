@@ -44,14 +44,27 @@ def copied(source, folder):
             shutil.copy(it, folder)
 
 
-def read(path):
-    """The version, the rows and the base of a member's file. It is read in a copy, so its log stays."""
+@contextlib.contextmanager
+def opened(path):
+    """A file, to be read. It is read in a copy, so its log stays."""
     with tempfile.TemporaryDirectory() as folder:
         copied(path, folder)
         with contextlib.closing(sqlite3.connect(f"{folder}/{os.path.basename(path)}")) as rows:
-            ((version,),) = rows.execute("SELECT version FROM form")
-            base = rows.execute("SELECT number FROM base").fetchone()[0] if version > 1 else 0
-            return version, dict(rows.execute("SELECT url, number FROM floors")), base
+            yield rows
+
+
+def read(path):
+    """The version, the rows and the base of a member's file."""
+    with opened(path) as rows:
+        ((version,),) = rows.execute("SELECT version FROM form")
+        base = rows.execute("SELECT number FROM base").fetchone()[0] if version > 1 else 0
+        return version, dict(rows.execute("SELECT url, number FROM floors")), base
+
+
+def read_last(path):
+    """The last number of a master's file."""
+    with opened(path) as rows:
+        return rows.execute("SELECT number FROM last").fetchone()[0]
 
 
 class Lone:

@@ -114,9 +114,9 @@ class Cluster:
     """Two members and their master, in one process that takes lines. Each member has the other and all foreign caches as its siblings by ICP: one at LOADER, of which
     only the ICP port is used, and those that are handed in, each as its address and its ports for HTTP, ICP and HTCP. `data` prepares the folder of their files, and `options` are further
     words of the command. `further` are origins beside that of the host `o`: their hosts and ports. Of those that a member asks, `asks` may leave out the foreign caches, or all.
-    `limits` are lines that the roster begins with."""
+    `limits` are lines that the roster begins with. `joining` are the ids of further members, which join, and are asked by nobody."""
 
-    def __init__(self, work, origin, foreign=(), data=lambda folder: None, options=(), further=(), asks=("members", "foreign"), limits=""):
+    def __init__(self, work, origin, foreign=(), data=lambda folder: None, options=(), further=(), asks=("members", "foreign"), limits="", joining=()):
         master, self.own, spare, unused = ports(4)
         self.http, self.icp, htcp = ports(2), ports(2), ports(2)
         others = [(LOADER, spare, self.own, unused), *foreign] if "foreign" in asks else []
@@ -125,6 +125,9 @@ class Cluster:
         for at in range(2):
             nodes += CACHE.format(kind="node", id=at + 1, name=f"n{at + 1}", address=NODES[at], http=self.http[at], icp=self.icp[at], htcp=htcp[at])
             nodes += PEER.format(id=2 - at) * ("members" in asks) + peers
+        for id in joining:
+            by_http, by_icp, by_htcp = ports(3)
+            nodes += CACHE.format(kind="node", id=id, name=f"n{id}", address=NODES[0], http=by_http, icp=by_icp, htcp=by_htcp) + "joins = true\n"
         for at, (address, by_http, by_icp, by_htcp) in enumerate(others):
             caches += CACHE.format(kind="foreign", id=101 + at, name=f"f{at}", address=address, http=by_http, icp=by_icp, htcp=by_htcp)
         with open(f"{work}/cluster.toml", "w") as file:

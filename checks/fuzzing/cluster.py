@@ -33,8 +33,8 @@ HOST, STRANGER = "127.0.0.1", "127.0.0.7"
 LIMITS = "fetch_wait = 1000\nask_wait = 4000\nanswer_wait = 2000\n"
 # Pages that the member holds as datagrams come.
 HELD = [b"http://o/a", b"http://o/b", b"http://o/", b"http://o/?", b"http://o/%41", b"http://o/A", b"http://p:8080/x?y"]
-# Statuses of a client's response that no source sent.
-OWN = (400, 431, 501, 502, 503, 504)
+# Statuses of a client's response that no source sent: refusals (node_http) and ends of a wait (cluster_service, cluster_sockets). A request never gets 413.
+OWN = (400, 414, 431, 501, 502, 503, 504)
 HANG, PAGE = 12, 1
 BATCH, CLIENTS = 64, 8
 AGE = 86_400

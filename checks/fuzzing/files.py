@@ -18,7 +18,7 @@ from fuzzing.trial import Trial
 KINDS = ("node file", "master file", "node log", "master log")
 PAGE, ROWS, PENDING = 4096, 1000, 100
 NAMES = {"node": "node-1.db", "master": "master.db"}
-FAULTS = ("BadTable", "StoreFault", "Io", "MasterBehind")
+FAULTS = ("BadTable", "StoreFault", "Io", "MasterBehind", "MemberBehind")
 MOST_SECONDS = 60
 # Ways to overwrite a page, and how often each is tried.
 WAYS = ["zeros", "ones", "noise", "another page", "half of it", "cut off", "an octet", "an octet", "an octet", "an octet"]
@@ -132,9 +132,8 @@ def play(trial: Trial, kind: str, at: int) -> None:
     name = NAMES[kind.split()[0]] + "-wal" * kind.endswith("log")
     with open(f"{work}/made/{name}", "rb") as file:
         octets = file.read()
-    # (an empty file is a new member's, by docs/OPERATING.md)
     ways = WAYS if not kind.endswith("log") else ["zeros", "noise", "cut off", "an octet"]
-    places = [(place, way) for place in pages(f"{work}/made/{name}") for way in ways if way != "cut off" or place[0]]
+    places = [(place, way) for place in pages(f"{work}/made/{name}") for way in ways]
     for index, ((start, size), way) in enumerate(places):
         if at not in (-1, index):
             continue

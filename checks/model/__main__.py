@@ -126,7 +126,7 @@ def compare_lines(runner: Runner, random: Random, command: str, count: int) -> N
 
 
 def compare_worlds(runner: Runner, random: Random, count: int) -> None:
-    compared = done = 0
+    compared = done = admitted = 0
     for _ in range(count):
         roster, maker = world_script(random)
         told = runner.run("world", text_of(maker.lines), roster)
@@ -140,8 +140,9 @@ def compare_worlds(runner: Runner, random: Random, count: int) -> None:
             print_lines("script", maker.lines)
             sys.exit(1)
         compared += len(told.answers)
-        done += maker.world.last_purge - len(maker.world.pending)
-    print(f"world: {count} scripts, {compared} lines equal; {done} purges done, no promise broken", flush=True)
+        done += maker.world.last_number - len(maker.world.pending)
+        admitted += len(maker.world.admitted)
+    print(f"world: {count} scripts, {compared} lines equal; {admitted} members admitted, {done} numbers done, no promise broken", flush=True)
 
 
 def compare_rosters(runner: Runner, random: Random, count: int) -> None:

@@ -29,3 +29,8 @@ class Floors:
             self.rows = {}
         self.seen = max(number, self.seen)
         return risen
+
+    def raise_base(self, number: int) -> None:
+        """The rows stay."""
+        self.base = max(number, self.base)
+        self.seen = max(number, self.seen)

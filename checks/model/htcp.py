@@ -10,6 +10,7 @@ DATA_START = 4
 DATA_HEADER_OCTETS = 8
 NOP, TST, CLR = 0, 1, 4
 NUMBER_LINE = b"X-Purge-Number"
+BASE_LINE = b"X-Purge-Base"
 STAMP_LINE = b"X-Purge-Stamp"
 MOST_NUMBER = 4_294_967_295
 

@@ -82,7 +82,7 @@ def split_host(authority: bytes) -> tuple[bytes, bytes]:
 
 
 def read_port(behind_host: bytes) -> int:
-    if not behind_host:
+    if behind_host in (b"", b":"):
         return 80
     digits = behind_host[1:]
     if not behind_host.startswith(b":") or not 1 <= len(digits) <= 5 or not DIGITS.issuperset(digits):

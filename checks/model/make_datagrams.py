@@ -8,8 +8,9 @@ NUMBERS = [0, 1, 2, 3, 5, 7, 32, 255, 256, 65535, 65536, 2**31, 2**32 - 2, 2**32
 ICP_OPCODES = [1] * 10 + [2, 3, 4, 21, 22, 23, 23, 23, 0, 5, 10, 11, 20, 24, 255]
 METHODS = [b"GET"] * 12 + [b"get", b"HEAD", b"POST", b"", b"GE", b"GETT", b"GET ", b"GET\0"]
 VERSIONS = [b"HTTP/1.1"] * 4 + [b"HTTP/1.0", b"", b"x"]
-LINE_NAMES = [b"X-Purge-Number"] * 12 + [b"x-purge-NUMBER", b"X-Purge-Stamp", b"X-Purge-Numbe", b"X-Purge-Numbers", b"X-Purge-Number ", b" X-Purge-Number",
-                                        b"X_Purge_Number", b"Accept", b"", b"X-Purge-Number\0"]
+LINE_NAMES = [b"X-Purge-Number"] * 12 + [b"X-Purge-Base"] * 6 + [b"x-purge-NUMBER", b"X-Purge-Stamp", b"X-Purge-Numbe", b"X-Purge-Numbers",
+                                                                  b"X-Purge-Number ", b" X-Purge-Number", b"X_Purge_Number", b"x-PURGE-base",
+                                                                  b"X-Purge-Bas", b"X-Purge-Base ", b"Accept", b"", b"X-Purge-Number\0"]
 LINE_ENDS = [b"\r\n"] * 16 + [b"\n", b"\r", b"\r\r\n", b"\r\n\r\n", b"\r\n ", b""]
 BLANKS = [b" "] * 8 + [b"", b"\t", b" \t ", b"\v", b"\r", b"\0", b"\xa0"]
 
@@ -80,7 +81,8 @@ def made_headers(random: Random, number: int) -> bytes:
     if random.random() < 0.25:
         return b""
     if random.random() < 0.6:
-        return b"X-Purge-Number: %d\r\n" % number * rarely(random, 0.1, 1, 2)
+        name = random.choice([b"X-Purge-Number", b"X-Purge-Number", b"X-Purge-Base"])
+        return (name + b": %d\r\n" % number) * rarely(random, 0.1, 1, 2)
     lines = [made_number_line(random, number) for _ in range(rarely(random, 0.3, 1, 2, 3))]
     lines.insert(random.randrange(len(lines) + 1), random.choice([b"Accept: */*", b"", b":", b"X-Purge-Number", b"X-Purge-Stamp: 9"]))
     return b"".join(line + random.choice(LINE_ENDS) for line in lines)

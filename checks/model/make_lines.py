@@ -3,7 +3,7 @@
 from random import Random
 
 from model.floors import MOST_ROWS
-from model.htcp import NUMBER_LINE, ClrAsk, TstAsk, number_line, write_htcp
+from model.htcp import BASE_LINE, NUMBER_LINE, ClrAsk, TstAsk, number_line, write_htcp
 from model.icp import IcpMessage, write_icp
 from model.lines import MOST_LINE_OCTETS
 from model.make_datagrams import made_htcp, made_icp
@@ -58,13 +58,19 @@ def full_store_script(random: Random) -> list[bytes]:
             [b"store " + other + random.choice([b"", b" 0", b" 1", b" 5"])],
             [b"htcp " + clear(other, 7, b"")],
             [numbered_clear(other, number)],
+            [base_clear(number)],
             [question(random, other, 5)],
-        ], [70, 10, 4, 4, 12])[0]
+        ], [70, 10, 4, 4, 0.1, 12])[0]
     return lines + [question(random, key, 5) for key in keys]
 
 
 def numbered_clear(key: bytes, number: int) -> bytes:
     return b"master " + clear(key, number, number_line(NUMBER_LINE, number))
+
+
+def base_clear(number: int) -> bytes:
+    """What an admission sends."""
+    return b"master " + clear(b"", number, number_line(BASE_LINE, number))
 
 
 def full_table_script(random: Random) -> bytes:
@@ -76,7 +82,8 @@ def full_table_script(random: Random) -> bytes:
     for _ in range(1500):
         key = random.choice(keys)
         number = random.choice([random.randint(1, 3 * MOST_ROWS), 2 * MOST_ROWS + random.randrange(-2, 3), random.randint(1, 9)])
-        lines.append(random.choices([numbered_clear(key, number), b"store %s %d" % (key, number), b"store " + key, question(random, key, 5)], [15, 50, 15, 20])[0])
+        kinds = [numbered_clear(key, number), base_clear(number), b"store %s %d" % (key, number), b"store " + key, question(random, key, 5)]
+        lines.append(random.choices(kinds, [15, 0.2, 50, 15, 20])[0])
     # (behind CR LF no line would be a purge)
     return b"".join(line + b"\n" for line in lines + [question(random, key, 5) for key in keys])
 

@@ -52,6 +52,8 @@ def good_roster(random: Random) -> Table:
     }
     if foreign:
         roster["foreign"] = [made_cache(random, cache) for cache in foreign]
+    for node in random.sample(roster["node"], min(random.choice([0, 0, 1, 1, 3]), len(order) - 1)):
+        node["joins"] = random.random() < 0.9
     hosts = [place for place, known in ((("o", 80), 0.93), (("o", 8080), 0.4), (("p", 80), 0.4)) if random.random() < known]
     roster["origin"] = [{"host": host, "port": port, "address": "127.0.0.1", "connect": 8080} for host, port in hosts]
     return roster
@@ -99,7 +101,7 @@ def change_field(random: Random, roster: Table) -> None:
         case 0:
             del table[key]
         case 1:
-            table[random.choice(["x", "weight", "Id", "peer", "name", "copies", "nodes"])] = random.choice(WRONG_VALUES)
+            table[random.choice(["x", "weight", "Id", "peer", "name", "copies", "nodes", "joins"])] = random.choice(WRONG_VALUES)
         case 2:
             table[key] = copy.deepcopy(random.choice(WRONG_VALUES))
         case _ if key in RANGES:
@@ -144,6 +146,14 @@ def double_an_address(random: Random, roster: Table) -> None:
             first["icp"] = first["htcp"]
 
 
+def change_joins(random: Random, roster: Table) -> None:
+    """All members join, or all but one."""
+    for node in roster["node"]:
+        node["joins"] = True
+    if random.random() < 0.5:
+        random.choice(roster["node"])["joins"] = False
+
+
 def change_peers(random: Random, roster: Table) -> None:
     """A peer that no entry bears, the node itself, one twice, or a ring of parents."""
     nodes = roster["node"]
@@ -176,7 +186,7 @@ def faulty_text(random: Random, text: bytes) -> bytes:
 def any_roster(random: Random) -> bytes:
     """A good roster with one change, perhaps two, or none."""
     roster = good_roster(random)
-    changes = [change_counts, double_an_address, change_peers, change_peers, change_field, change_field, change_field]
+    changes = [change_counts, double_an_address, change_peers, change_peers, change_joins, change_field, change_field, change_field]
     chosen = random.choice(changes)
     if random.random() < 0.95:
         chosen(random, roster)

@@ -37,9 +37,9 @@ def variant(random: Random, key: bytes) -> bytes:
 
 def long_url(random: Random) -> bytes:
     """Around 1,024 octets, as a text or as a key."""
-    front = random.choice([b"http://o/", b"HTTP://O:80/", b"http://o:00080/", b"http://", b"http://o?", b"http://o:08080?", b"https://o/"])
+    front = random.choice([b"http://o/", b"HTTP://O:80/", b"http://o:00080/", b"http://o:/", b"http://", b"http://o?", b"http://o:08080?", b"https://o/"])
     text = (front + random.choice([b"a", b"A", b"a."]) * 2000)[:random.choice(LENGTHS)]
-    end = random.choice([b"", b"", b":80", b":00080", b" ", b"#"])
+    end = random.choice([b"", b"", b":80", b":", b":00080", b" ", b"#"])
     return text[:len(text) - len(end)] + end
 
 

@@ -7,10 +7,10 @@ from model.make_rosters import good_roster, toml_text
 from model.roster import read_roster
 from model.world import World
 
-TEXTS = [[b"http://o/a", b"HTTP://O/a", b"http://o:80/a", b"hTtP://o:00080/a"], [b"http://o/", b"http://o", b"http://O:080"], [b"http://o?q", b"http://o/?q"],
+TEXTS = [[b"http://o/a", b"HTTP://O/a", b"http://o:/a", b"http://o:80/a", b"hTtP://o:00080/a"], [b"http://o/", b"http://o", b"http://O:080"], [b"http://o?q", b"http://o/?q"],
          [b"http://o/bb", b"http://O/bb"], [b"http://o/%41"], [b"http://o/A"], [b"http://o:8080/x", b"http://O:08080/x"], [b"http://p/", b"http://P:80/"],
          [b"http://q/", b"http://q:80"]]
-BAD_URLS = [b"https://o/", b"/a", b"http://u@o/", b"http://o:0/", b"http://o/a#b", b"http://o/" + b"x" * 1016, b"http://o/\x7f", b"http://o:/",
+BAD_URLS = [b"https://o/", b"/a", b"http://u@o/", b"http://o:0/", b"http://o/a#b", b"http://o/" + b"x" * 1016, b"http://o/\x7f", b"http://o:x/",
             b"*", b"http://o/a\r"]
 BAD_LINES = [line.strip(b"\n") for line in b"""
  clock 1
@@ -53,6 +53,11 @@ fault 256
 restart x
 issue
 issue http://o/a x
+admit
+admit 01
+admit 256
+admit 1 2
+admit x
 resend 1
 status 4294967296
 status -
@@ -89,7 +94,7 @@ class ScriptMaker:
             self.sent_before: choose([0, 2, 6]), self.answer_elsewhere: choose([0, 1, 4]),
             self.origin: choose([3, 8, 12]), self.fail: choose([0, 0.5, 2]), self.expire: choose([0, 0.7, 3]),
             self.close: choose([0, 0, 0.15, 0.6]), self.restart: choose([0, 0, 0.3, 1]),
-            self.issue: choose([0.3, 1, 2.5, 5]), self.resend: choose([0, 0.3, 1]), self.status: choose([0.2, 1]), self.master: choose([0, 0.2]),
+            self.issue: choose([0.3, 1, 2.5, 5]), self.admit: choose([0, 0.3, 1, 3]), self.resend: choose([0, 0.3, 1]), self.status: choose([0.2, 1]), self.master: choose([0, 0.2]),
             self.clock: choose([0, 0.5, 1.5]), self.bad: choose([0, 0.2, 1]), self.stray: choose([0, 0.2, 1]),
         }
 
@@ -99,7 +104,7 @@ class ScriptMaker:
         self.texts = self.texts[:1]
         self.kinds |= {
             self.client: choose([4, 8]), self.datagram: choose([25, 40]), self.ask: 15, self.answer: choose([2, 12]), self.answer_elsewhere: choose([2, 6]),
-            self.origin: choose([3, 10]), self.issue: choose([1, 2, 4]), self.close: choose([0, 0, 0.1]), self.restart: choose([0, 0.2]), self.bad: 0,
+            self.origin: choose([3, 10]), self.issue: choose([1, 2, 4]), self.admit: choose([0.3, 1, 3]), self.close: choose([0, 0, 0.1]), self.restart: choose([0, 0.2]), self.bad: 0,
             self.stray: 0.1,
         }
 
@@ -195,11 +200,18 @@ class ScriptMaker:
     def issue(self) -> bytes:
         return b"issue " + self.url()
 
+    def admit(self) -> bytes | None:
+        """Mostly a member that was not admitted."""
+        joining = [node.id for node in self.world.nodes.values() if node.me.joins and node.id not in self.world.admitted]
+        if self.random.random() < 0.9:
+            return b"admit %d" % self.random.choice(joining) if joining else None
+        return b"admit %d" % self.random.choice([*self.members, 0, 17, 101, 255])
+
     def resend(self) -> bytes | None:
         return b"resend" if len(self.world.pending) * len(self.members) < MOST_SENT_AGAIN else None
 
     def status(self) -> bytes:
-        last = self.world.last_purge
+        last = self.world.last_number
         return b"status %d" % self.random.choice([0, self.random.randint(0, last + 1), last, last + 1, 4_294_967_295])
 
     def master(self) -> bytes:

@@ -4,7 +4,7 @@ from dataclasses import dataclass, field
 
 from model.fault import Fault
 from model.floors import Floors
-from model.htcp import (CLR, NUMBER_LINE, STAMP_LINE, TST, ClrAnswer, ClrAsk, NopAnswer, NopAsk, Other, OtherAnswer, Overall, TstAsk, TstHit,
+from model.htcp import (BASE_LINE, CLR, NUMBER_LINE, STAMP_LINE, TST, ClrAnswer, ClrAsk, NopAnswer, NopAsk, Other, OtherAnswer, Overall, TstAsk, TstHit,
                         TstMiss, number_in, number_line, read_htcp, write_htcp)
 from model.icp import IcpMessage, read_icp, write_icp
 from model.keys import origin_of, read_key
@@ -116,6 +116,11 @@ class Node:
         if self.is_closed:
             raise Fault("Closed")
 
+    @property
+    def is_outside(self) -> bool:
+        """A joining member without a base serves nothing and answers no question."""
+        return self.me.joins and self.floors.base == 0
+
     def servable(self, key: bytes, now: int) -> Copy | None:
         """The copy that may be served: it is fresh, and its stamp is at least the key's floor."""
         copy = self.store.peek(key)
@@ -130,6 +135,8 @@ class Node:
     def ask(self, key: bytes, only_if_cached: bool, asker: int | None, now: int) -> Reply:
         """From a client, or from a member; what a sibling asks for is served from what is held alone (RFC 2187, section 1)."""
         self.refuse_if_closed()
+        if self.is_outside:
+            return Reply(Served(Answer(503)), asker)
         copy = self.servable(key, now)
         if copy is not None:
             self.store.move_to_front(key)
@@ -279,7 +286,7 @@ class Node:
         return self.told(message.number, sender, "icp", kind, None, now, message.url)
 
     def icp_operation(self, sender: Address, url: bytes, now: int) -> str:
-        if not self.is_known(sender, "icp"):
+        if self.is_outside or not self.is_known(sender, "icp"):
             return "Denied"
         key = key_or_none(url)
         if key is None:
@@ -310,7 +317,7 @@ class Node:
         return Reply(sent=[Datagram(self.me.htcp, sender, "htcp", write_htcp(answer))] if message.desired else [])
 
     def tst(self, sender: Address, message: TstAsk, now: int) -> TstHit | TstMiss | Overall:
-        if not self.is_known(sender, "htcp"):
+        if self.is_outside or not self.is_known(sender, "htcp"):
             return Overall(message.number, TST, REFUSED)
         key = key_or_none(message.uri)
         copy = self.servable(key, now) if key is not None and message.method == b"GET" else None
@@ -323,8 +330,13 @@ class Node:
         key = key_or_none(message.uri)
         try:
             number = number_in(message.request_headers, NUMBER_LINE)
+            base = number_in(message.request_headers, BASE_LINE)
         except Fault:
             return refused
+        if base is not None:
+            if sender != self.roster.master or base != message.number or base < 1 or number is not None:
+                return refused
+            return ClrAnswer(message.number, self.raise_base(base))
         if number is None:
             if not self.is_known(sender, "htcp") and sender != self.roster.master:
                 return refused
@@ -340,6 +352,13 @@ class Node:
         if base:
             self.store.remove_all_below(base)
         return code
+
+    def raise_base(self, number: int) -> int:
+        """Tells by a code whether a copy went, of whatever key."""
+        self.floors.raise_base(number)
+        held = len(self.store.copies)
+        self.store.remove_all_below(number)
+        return GONE if len(self.store.copies) < held else NOT_HELD
 
     def drop(self, key: bytes | None, below: int | None) -> int:
         """Removes the copy of the key, or only one whose stamp is less; tells by a code whether one went."""

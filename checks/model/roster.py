@@ -28,6 +28,8 @@ class Cache:
     icp: Address
     htcp: Address
     peers: tuple[Peer, ...] = ()
+    joins: bool = False
+    """A joining member; else a founding one."""
 
 
 @dataclass
@@ -77,6 +79,12 @@ def port(value: Any) -> int:
     return number(value, 1, 65535)
 
 
+def boolean(value: Any) -> bool:
+    if not isinstance(value, bool):
+        raise Fault("BadField")
+    return value
+
+
 def text(value: Any, form: str) -> str:
     if not isinstance(value, str) or not re.fullmatch(form, value):
         raise Fault("BadField")
@@ -120,6 +128,7 @@ def read_cache(entry: dict[str, Any], least: int, most: int) -> Cache:
         icp=(host, port(entry["icp"])),
         htcp=(host, port(entry["htcp"])),
         peers=tuple(read_peer(peer) for peer in tables(entry.get("peer", []))),
+        joins=boolean(entry.get("joins", False)),
     )
 
 
@@ -141,10 +150,10 @@ def read_fields(document: dict[str, Any]) -> tuple[Roster, list[Cache], list[Cac
         octets=number(document["bytes"], 1, 1_073_741_824),
         master=(address(master["address"]), port(master["htcp"])),
     )
-    nodes = [read_cache(table(entry, CACHE_KEYS, ("peer",)), 1, MOST_NODES) for entry in tables(document["node"])]
+    nodes = [read_cache(table(entry, CACHE_KEYS, ("peer", "joins")), 1, MOST_NODES) for entry in tables(document["node"])]
     foreign = [read_cache(table(entry, CACHE_KEYS), FIRST_FOREIGN, LAST_FOREIGN) for entry in tables(document.get("foreign", []))]
     origins = [read_origin(entry) for entry in tables(document.get("origin", []))]
-    if not nodes:
+    if all(node.joins for node in nodes):
         raise Fault("BadField")
     return roster, nodes, foreign, origins
 

@@ -10,7 +10,7 @@ def word_behind(words: list[bytes], name: bytes) -> bytes | None:
 
 
 def broken_promises(world: World, lines: list[bytes], answers: list[bytes]) -> list[str]:
-    """Once `done P` was told, no copy of that purge's key is served whose reading began before the line that issued it; and no request to a
+    """Once `done P` was told of a purge P, no copy of that purge's key is served whose reading began before the line that issued it; and no request to a
     sibling begins a round, an ask or a read."""
     broken: list[str] = []
     issued: dict[int, tuple[bytes, int]] = {}
@@ -27,6 +27,6 @@ def broken_promises(world: World, lines: list[bytes], answers: list[bytes]) -> l
             broken += [f"line {place}: an old copy after purge {purge}" for purge in done if issued[purge][0] == key and began < issued[purge][1]]
         if words[1:2] == [b"purge"]:
             issued[int(words[2])] = (read_key(line.split(b" ")[1]), place)
-        if words[1:2] == [b"done"]:
+        if words[1:2] == [b"done"] and int(words[2]) in issued:
             done.add(int(words[2]))
     return broken

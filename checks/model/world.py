@@ -4,7 +4,7 @@ answers, for docs/SAFETY.md: which lines were requests to a sibling, and for eac
 from dataclasses import dataclass, field
 
 from model.fault import Fault
-from model.htcp import NUMBER_LINE, ClrAnswer, ClrAsk, TstAsk, number_line, read_htcp, write_htcp
+from model.htcp import BASE_LINE, NUMBER_LINE, ClrAnswer, ClrAsk, TstAsk, number_line, read_htcp, write_htcp
 from model.icp import read_icp
 from model.keys import read_key
 from model.lines import BadLine, number_word, split_words
@@ -34,8 +34,11 @@ class MemberAnswer:
 
 
 @dataclass
-class Purge:
-    key: bytes
+class Pending:
+    """What the master waits for under a number: a purge of a key, or an admission, which has none."""
+
+    key: bytes | None
+    needed: set[int]
     acknowledged: set[int] = field(default_factory=set)
 
 
@@ -53,8 +56,11 @@ class World:
         self.datagrams: list[Datagram] = []
         self.asks: list[MemberAsk] = []
         self.answers: list[MemberAnswer] = []
-        self.last_purge = 0
-        self.pending: dict[int, Purge] = {}
+        self.last_number = 0
+        self.pending: dict[int, Pending] = {}
+        """By number."""
+        self.admitted: dict[int, int] = {}
+        """The numbers of the admissions, done or not, by member."""
         self.served_asks: dict[tuple[int, int], MemberAsk] = {}
         """The asks of members that wait at a member, by it and the block that the ask has there."""
         self.line = 0
@@ -103,6 +109,8 @@ class World:
                 return self.event(self.restart, number_word(member, 8))
             case [b"issue", url]:
                 return self.event(self.issue, read_key(url))
+            case [b"admit", member]:
+                return self.event(self.admit, number_word(member, 8))
             case [b"resend"]:
                 return self.event(self.resend)
             case [b"status", purge]:
@@ -218,35 +226,56 @@ class World:
     # The master.
 
     def clear(self, number: int, member: int) -> Datagram:
-        """The CLR of a purge: its TRANS-ID is the purge's number, and a line of its REQ-HDRS tells the number."""
-        message = ClrAsk(number, 1, 0, b"GET", self.pending[number].key, b"HTTP/1.1", number_line(NUMBER_LINE, number))
+        """The CLR of a purge or of an admission: its TRANS-ID is the number, and a line of its REQ-HDRS tells it. An admission has no URI."""
+        key = self.pending[number].key
+        line = number_line(BASE_LINE if key is None else NUMBER_LINE, number)
+        message = ClrAsk(number, 1, 0, b"GET", key or b"", b"HTTP/1.1", line)
         return Datagram(self.roster.master, self.roster.nodes[member].htcp, "htcp", write_htcp(message))
 
-    def issue(self, key: bytes) -> bytes:
+    def give_number(self, key: bytes | None, needed: set[int]) -> int:
         if len(self.pending) >= MOST_PENDING:
             raise Fault("TooManyPending")
-        self.last_purge += 1
-        self.pending[self.last_purge] = Purge(key)
-        return b"purge %d " % self.last_purge + self.send([self.clear(self.last_purge, member) for member in self.nodes])
+        self.last_number += 1
+        self.pending[self.last_number] = Pending(key, needed)
+        return self.last_number
+
+    def issue(self, key: bytes) -> bytes:
+        """A purge needs the founding members, and those that were admitted before it."""
+        founding = {node.id for node in self.nodes.values() if not node.me.joins}
+        number = self.give_number(key, founding | set(self.admitted))
+        return b"purge %d " % number + self.send_again(number)
+
+    def admit(self, member: int) -> bytes:
+        if member not in self.nodes or not self.nodes[member].me.joins or member in self.admitted:
+            raise Fault("NotJoining")
+        number = self.give_number(None, {member})
+        self.admitted[member] = number
+        return b"admitted %d " % number + self.send_again(number)
+
+    def missing(self, number: int) -> list[int]:
+        pending = self.pending[number]
+        return sorted(pending.needed - pending.acknowledged)
+
+    def send_again(self, *numbers: int) -> bytes:
+        return self.send([self.clear(number, member) for number in numbers for member in self.missing(number)])
 
     def resend(self) -> bytes:
-        missing = [(number, member) for number, purge in self.pending.items() for member in self.nodes if member not in purge.acknowledged]
-        return self.send([self.clear(number, member) for number, member in missing])
+        return self.send_again(*sorted(self.pending))
 
     def status(self, number: int) -> bytes:
         if number in self.pending:
-            return b"pending %d" % (len(self.nodes) - len(self.pending[number].acknowledged))
-        return b"done %d" % number if 1 <= number <= self.last_purge else b"unknown"
+            return b"pending %d" % len(self.missing(number))
+        return b"done %d" % number if 1 <= number <= self.last_number else b"unknown"
 
     def acknowledge(self, datagram: Datagram) -> bytes:
-        """A response to a CLR of the code 0 or 2 marks the member that sent it."""
+        """A response to a CLR of the code 0 or 2 marks the member that sent it, if its number needs it."""
         message = read_htcp(datagram.octets)
         if not isinstance(message, ClrAnswer):
             return b""
-        purge = self.pending.get(message.number)
-        if purge is not None and message.response in (0, 2):
-            purge.acknowledged |= {node.id for node in self.nodes.values() if node.me.htcp == datagram.sender}
-            if len(purge.acknowledged) == len(self.nodes):
+        pending = self.pending.get(message.number)
+        if pending is not None and message.response in (0, 2):
+            pending.acknowledged |= {member for member in pending.needed if self.roster.nodes[member].htcp == datagram.sender}
+            if not self.missing(message.number):
                 del self.pending[message.number]
         return self.status(message.number)
 

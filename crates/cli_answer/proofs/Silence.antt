@@ -70,7 +70,8 @@ no_messages [] none = refl
 no_messages (first ∷ others) none = absurd cc
 
 -- a step that sends nothing is answered by `nothing`
-told_silent : (outcome : Result (Reply (Unit {0})) StepFault) (turn : Turn) (text : List ℕ) → ToldAfter outcome (Ok turn) → turn.send ≡ [] → text ≡ codes "nothing" → IsTold outcome text
+told_silent : (outcome : Result (Reply (Unit {0})) StepFault) (turn : Turn) (text : List ℕ) → ToldAfter outcome (Ok turn) → turn.send ≡ []
+    → text ≡ codes "nothing" → IsTold outcome text
 told_silent (Ok reply) turn text (inl is) none nothing =
     let same : turn ≡ turn_of reply = cc in
     nothing ∙ ap sent_text (sym (no_messages reply.send (sym (ap (λ (t : Turn). t.send) same) ∙ none)))

@@ -1,6 +1,6 @@
 -- Lines of too many words.
 use Rattle.std.proofs.Common.{◌≡◌, ℕ, ◌≤◌, Bor, List, [], ◌∷◌, length, map, refl, arith}
-use Rattle.cli_world.specs.Command.{Command, BadLine, command_of}
+use Rattle.cli_world.specs.Command.{BadLine, command_of}
 
 -- no line has more than five words
 pub long_lines_are_bad : (words : List (Bor (List ℕ))) → 6 ≤ length words → BadLine ≡ command_of (map (λ word. word.now) words)

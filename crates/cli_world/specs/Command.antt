@@ -1,5 +1,5 @@
 -- The lines of a world's script.
-use Rattle.std.specs.Prelude.{ℕ, ◌^◌, Bool, true, false, ◌&&◌, ◌||◌, bytes_eq, List, [], ◌∷◌, codes, Option, Some, None, if◌then◌else◌}
+use Rattle.std.specs.Prelude.{ℕ, ◌^◌, Bool, true, false, ◌&&◌, bytes_eq, List, [], ◌∷◌, codes, Option, Some, None, if◌then◌else◌}
 use Rattle.values_lines.specs.Words.{decimal_below}
 use Rattle.cli_world.specs.declared.line.Line.{Line}
 use Rattle.cli_world.specs.declared.line.Line.TheVariants as lines
@@ -17,6 +17,7 @@ pub data Command : Type 0 where
   FaultLine : (node : ℕ) → Command
   RestartLine : (node : ℕ) → Command
   IssueLine : (url : List ℕ) → Command
+  AdmitLine : (node : ℕ) → Command
   ResendLine : Command
   StatusLine : (number : ℕ) → Command
   MasterLine : Command
@@ -35,6 +36,7 @@ command_text (lines.Expire node serial) = ExpireLine node serial
 command_text (lines.Fault node) = FaultLine node
 command_text (lines.Restart node) = RestartLine node
 command_text (lines.Issue url) = IssueLine url.now
+command_text (lines.Admit node) = AdmitLine node
 command_text lines.Resend = ResendLine
 command_text (lines.Status number) = StatusLine number
 command_text lines.Master = MasterLine
@@ -81,6 +83,15 @@ node_by fails None = BadLine
 abbrev pub node_of : Bool → List ℕ → Command
 node_of fails word = node_by fails (octet_in word)
 
+-- `admit N`, by the number that N is
+abbrev pub admit_by : Option ℕ → Command
+admit_by (Some node) = AdmitLine node
+admit_by None = BadLine
+
+-- `admit N`
+abbrev pub admit_of : List ℕ → Command
+admit_of word = admit_by (octet_in word)
+
 -- `status P`, by the number that P is
 abbrev pub status_by : Option ℕ → Command
 status_by (Some number) = StatusLine number
@@ -109,6 +120,7 @@ with_one keyword word =
     if bytes_eq keyword (codes "issue") then issue_of word
     else if bytes_eq keyword (codes "fault") then node_of true word
     else if bytes_eq keyword (codes "restart") then node_of false word
+    else if bytes_eq keyword (codes "admit") then admit_of word
     else if bytes_eq keyword (codes "status") then status_of word else counted keyword word
 
 -- Lines of three words

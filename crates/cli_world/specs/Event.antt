@@ -1,5 +1,5 @@
 -- Which event a line is.
-use Rattle.std.specs.Prelude.{◌≡◌, ℕ, Bool, true, false, List, [], ◌∷◌, codes, Option, Some, None, Result, Ok, Err, if◌then◌else◌}
+use Rattle.std.specs.Prelude.{◌≡◌, ℕ, Bool, false, List, [], ◌∷◌, codes, None, Result, Ok, Err, if◌then◌else◌}
 use Rattle.url_key.specs.declared.fault.KeyFault.{KeyFault}
 use Rattle.url_key.specs.Key.{HasKey}
 use Rattle.http_messages.specs.Field.{FieldText}
@@ -11,7 +11,7 @@ use Rattle.values_lines.specs.Words.{words_of}
 use Rattle.cli_world.specs.declared.event.Heard.{Heard}
 use Rattle.cli_world.specs.declared.event.Heard.TheVariants as heard
 use Rattle.cli_world.specs.Command.{Command, ClockLine, ClientLine, DatagramLine, AskLine, AnswerLine, OriginLine, FailLine, ExpireLine, FaultLine, RestartLine}
-use Rattle.cli_world.specs.Command.{IssueLine, ResendLine, StatusLine, MasterLine, BadLine, command_of}
+use Rattle.cli_world.specs.Command.{IssueLine, AdmitLine, ResendLine, StatusLine, MasterLine, BadLine, command_of}
 
 -- what a client asks for
 abbrev pub asked_for : List ℕ → Bool → Ask
@@ -62,6 +62,7 @@ IsHeardAs (ExpireLine node serial) h = h ≡ heard.Event (world.Expire node seri
 IsHeardAs (FaultLine node) h = h ≡ heard.Event (world.Fault node)
 IsHeardAs (RestartLine node) h = h ≡ heard.Event (world.Restart node)
 IsHeardAs (IssueLine url) h = IsIssueFor url h
+IsHeardAs (AdmitLine node) h = h ≡ heard.Event (world.Admit node)
 IsHeardAs ResendLine h = h ≡ heard.Event world.Resend
 IsHeardAs (StatusLine number) h = h ≡ heard.Event (world.Status number)
 IsHeardAs MasterLine h = h ≡ heard.Event world.RestartMaster

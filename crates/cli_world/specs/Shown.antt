@@ -31,16 +31,16 @@ abbrev pub serve_shown : Option (Serve ℕ) → List ℕ
 serve_shown None = []
 serve_shown (Some s) = served_shown s.served
 
--- how far a purge is, if that was asked
+-- how far a number is, if that was asked
 abbrev pub status_shown : Option (ℕ × Status) → List ℕ
 status_shown None = []
 status_shown (Some (number, status.Unknown)) = codes " unknown"
 status_shown (Some (number, status.Pending missing)) = named_number (codes "pending") (Some missing)
 status_shown (Some (number, status.Done)) = named_number (codes "done") (Some number)
 
--- the number of a purge that was issued, or how far one is
-abbrev pub purge_shown : Option ℕ → Option (ℕ × Status) → List ℕ
-purge_shown number status = named_number (codes "purge") number ++ status_shown status
+-- the number of a purge that was issued, or of an admission
+abbrev pub given_shown : Option ℕ → Option ℕ → List ℕ
+given_shown purge admitted = named_number (codes "purge") purge ++ named_number (codes "admitted") admitted
 
 -- the numbers of the datagrams that were sent
 abbrev pub sent_shown : List ℕ → List ℕ
@@ -57,9 +57,10 @@ fault_shown None = []
 fault_shown (Some (actor.Step f)) = refusal_shown (step_fault_name f)
 fault_shown (Some (actor.Master f)) = refusal_shown (master_fault_name f)
 
--- what is served, which response is sent, and what is told of a purge
+-- what is served, which response is sent, and what the master tells
 abbrev pub told_shown : Outcome → List ℕ
-told_shown o = serve_shown o.serve ++ named_number (codes "answer") o.answer ++ purge_shown o.purge o.status
+told_shown o =
+    serve_shown o.serve ++ named_number (codes "answer") o.answer ++ given_shown o.purge o.admitted ++ status_shown o.status
 
 -- what is sent and what begins, or what was refused
 abbrev pub begun_shown : Outcome → List ℕ

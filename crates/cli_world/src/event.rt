@@ -56,6 +56,7 @@ fn heard_as(alloc: Global, line: Line<'_>) -> Result<Heard, AllocError>
         Line::Fault { node } => WorldEvent::Fault { node },
         Line::Restart { node } => WorldEvent::Restart { node },
         Line::Issue { url } => return issue(alloc, url),
+        Line::Admit { node } => WorldEvent::Admit { node },
         Line::Resend => WorldEvent::Resend,
         Line::Status { number } => WorldEvent::Status { number },
         Line::Master => WorldEvent::RestartMaster,

@@ -1,8 +1,8 @@
 //! What a line asks for.
 ghost use Rattle.std.specs.Prelude.{◌≡◌, map};
 ghost use Rattle.cli_world.specs.Command.{command_text, command_of, bare, with_one, issue_of};
-ghost use Rattle.cli_world.specs.Command.{node_of, status_of, counted, with_two, client_of};
-ghost use Rattle.cli_world.specs.Command.{answer_of, fetch_of, with_three, with_four};
+ghost use Rattle.cli_world.specs.Command.{node_of, admit_of, status_of, counted, with_two};
+ghost use Rattle.cli_world.specs.Command.{client_of, answer_of, fetch_of, with_three, with_four};
 
 use values_lines::{decimal_u8, decimal_u16, decimal_u32, decimal_u64};
 
@@ -60,9 +60,13 @@ pub(crate) enum Line<'a> {
     Issue {
         url: &'a [u8],
     },
+    /// `admit N`: the master admits a member.
+    Admit {
+        node: u8,
+    },
     /// `resend`: the master sends again what is due.
     Resend,
-    /// `status P`: the master is asked how far a purge is.
+    /// `status P`: the master is asked how far a number is.
     Status {
         number: u32,
     },
@@ -110,6 +114,8 @@ fn line_with_one<'a>(keyword: &[u8], word: &'a [u8]) -> Line<'a>
         issue_line(word)
     } else if keyword == b"fault".as_slice() || keyword == b"restart".as_slice() {
         node_line(keyword == b"fault".as_slice(), word)
+    } else if keyword == b"admit".as_slice() {
+        admit_line(word)
     } else if keyword == b"status".as_slice() {
         status_line(word)
     } else {
@@ -135,6 +141,16 @@ fn node_line<'a>(fails: bool, node: &[u8]) -> Line<'a>
     match decimal_u8(node) {
         Some(node) if fails => Line::Fault { node },
         Some(node) => Line::Restart { node },
+        None => Line::Bad,
+    }
+}
+
+/// `admit N`.
+fn admit_line<'a>(node: &[u8]) -> Line<'a>
+    ensures { command_text result ≡ admit_of node.now }
+{
+    match decimal_u8(node) {
+        Some(node) => Line::Admit { node },
         None => Line::Bad,
     }
 }

@@ -23,15 +23,15 @@ pub(crate) struct Player {
 ///
 /// The lines: `clock T`, `client N URL [only-if-cached]`, `datagram K`, `ask K`, `answer K
 /// [SERIAL]`, `origin N SERIAL STATUS BODY` (a response that may be kept for 60 seconds), `fail N
-/// SERIAL`, `expire N SERIAL`, `fault N`, `restart N`, `issue URL`, `resend`, `status P` and
-/// `master`. A number is decimal, without leading zeros. Datagrams, requests and responses are each
-/// counted from 1 as they are sent.
+/// SERIAL`, `expire N SERIAL`, `fault N`, `restart N`, `issue URL`, `admit N`, `resend`, `status P`
+/// and `master`. A number is decimal, without leading zeros. Datagrams, requests and responses are
+/// each counted from 1 as they are sent.
 ///
 /// The answers, as far as there is something to tell, in this order: `serve STATUS stamp S body
-/// BODY` or `serve STATUS`, `answer K`, `purge P`, `pending C`, `done P` or `unknown`, `round
-/// SERIAL`, `send K K ..`, `ask K`, `read SERIAL`, `refused NAME`; else `-`. A line that is none of
-/// these is answered by `bad line`, and so is an origin's response that has no text; a URL that has
-/// no key is answered by its fault. Such a line is no event.
+/// BODY` or `serve STATUS`, `answer K`, `purge P`, `admitted P`, `pending C`, `done P` or
+/// `unknown`, `round SERIAL`, `send K K ..`, `ask K`, `read SERIAL`, `refused NAME`; else `-`. A
+/// line that is none of these is answered by `bad line`, and so is an origin's response that has
+/// no text; a URL that has no key is answered by its fault. Such a line is no event.
 ///
 /// Where the reader or the writer fails, a line has more than 140,000 octets, 70,000 reads are not
 /// enough, or there is no memory, a front of the answers is written.

@@ -1,8 +1,8 @@
 //! How the outcome of an event reads.
 ghost use Rattle.std.specs.Prelude.{◌≡◌, ◌++◌, OnOk, decimal};
-ghost use Rattle.cli_world.specs.Shown.{number_shown, named_number, serve_shown, purge_shown};
-ghost use Rattle.cli_world.specs.Shown.{sent_shown, fault_shown, refusal_shown, outcome_shown};
-ghost use Rattle.cli_world.specs.Shown.{told_shown, begun_shown, parts_shown};
+ghost use Rattle.cli_world.specs.Shown.{number_shown, named_number, serve_shown, given_shown};
+ghost use Rattle.cli_world.specs.Shown.{status_shown, sent_shown, fault_shown, refusal_shown};
+ghost use Rattle.cli_world.specs.Shown.{outcome_shown, told_shown, begun_shown, parts_shown};
 
 use itoa::Buffer;
 use node_rules::{Serve, Served};
@@ -68,13 +68,20 @@ fn push_serve(serve: &Option<Serve<u64>>, text: &mut Vec<u8>) -> Result<(), Allo
     }
 }
 
-/// Writes the number of a purge, or how far one is.
-fn push_purge(outcome: &Outcome, text: &mut Vec<u8>) -> Result<(), AllocError>
+/// Writes the number of a purge or of an admission.
+fn push_given(outcome: &Outcome, text: &mut Vec<u8>) -> Result<(), AllocError>
     ensures { OnOk result (text.new.items ≡ text.old.items
-        ++ purge_shown outcome.now.purge outcome.now.status) }
+        ++ given_shown outcome.now.purge outcome.now.admitted) }
 {
     push_short("purge", outcome.purge, text)?;
-    match outcome.status {
+    push_short("admitted", outcome.admitted, text)
+}
+
+/// Writes how far a number is.
+fn push_status(status: Option<(u32, Status)>, text: &mut Vec<u8>) -> Result<(), AllocError>
+    ensures { OnOk result (text.new.items ≡ text.old.items ++ status_shown status) }
+{
+    match status {
         Some((_, Status::Unknown)) => text.extend_from_slice(b" unknown"),
         Some((_, Status::Pending(missing))) => {
             push_named("pending", Some(u64::from(missing)), text)
@@ -117,13 +124,14 @@ pub(crate) fn push_refusal(name: &str, text: &mut Vec<u8>) -> Result<(), AllocEr
     text.extend_from_slice(name.as_bytes())
 }
 
-/// Writes what is served, which response is sent, and what is told of a purge.
+/// Writes what is served, which response is sent, and what the master tells.
 fn push_told(outcome: &Outcome, text: &mut Vec<u8>) -> Result<(), AllocError>
     ensures { OnOk result (text.new.items ≡ text.old.items ++ told_shown outcome.now) }
 {
     push_serve(&outcome.serve, text)?;
     push_named("answer", outcome.answer, text)?;
-    push_purge(outcome, text)
+    push_given(outcome, text)?;
+    push_status(outcome.status, text)
 }
 
 /// Writes what is sent and what begins, or what was refused.

@@ -1,5 +1,5 @@
 -- The lines of an input are answered one after another: each step of the loop over them, and each way out of it.
-use Rattle.std.proofs.Common.{◌≡◌, ◌≢◌, ◌⊎◌, ℕ, MatchBool, codes, ◌+◌, ◌<◌, ◌≤◌, ◌==◌, Bool, true, false, ◌&&◌, not, cond, bytes_eq, Option, Some, None, List}
+use Rattle.std.proofs.Common.{◌≡◌, ◌≢◌, ◌⊎◌, ℕ, MatchBool, codes, ◌+◌, Bool, true, false, ◌&&◌, not, cond, bytes_eq, Option, Some, None, List}
 use Rattle.std.proofs.Common.{[], ◌∷◌, ◌++◌, length, take, inl, inr, refl, sym, ap, ◌∙◌, subst, arith, append_assoc, append-nil, length-append, take_at}
 use Rattle.std.proofs.lemmas.List.Sums.{take_while-cons}
 use Rattle.std.proofs.lemmas.Slice.Eq.{bytes_eq-Decides}
@@ -133,8 +133,15 @@ module _ (roster : Tables) where
   -- what is said of it
   says_long : (now : Option Gathered) (line : List ℕ) (middle new : Option (List ℕ)) (c : Bool) → is_long line ≡ true →
       AppendsText middle new c (codes "LineTooLong" ++ newline ∷ []) → AnswersLine roster now line middle new c now
-  says_long now line middle new c long wrote =
-      (codes "LineTooLong", (subst (λ b. MatchBool b (codes "LineTooLong" ≡ codes "LineTooLong") ((codes "LineTooLong" ≡ codes "NoMemory") ⊎ LineTells roster now line (codes "LineTooLong"))) (sym long) refl, goes_on now now refl), wrote)
+  says_long now line middle new c long wrote = (
+    codes "LineTooLong",
+    (
+      subst (λ b. MatchBool b (codes "LineTooLong" ≡ codes "LineTooLong")
+          ((codes "LineTooLong" ≡ codes "NoMemory") ⊎ LineTells roster now line (codes "LineTooLong"))) (sym long) refl,
+      goes_on now now refl,
+    ),
+    wrote,
+  )
 
   answered_long : (b c f : Bool) (before now : Option Gathered) (input rest after : Option (List ℕ)) (line : List ℕ)
       (old middle new : Option (List ℕ)) → Answering roster b f before now input rest old middle → TakesLine rest after taken.TooLong line →

@@ -1,11 +1,11 @@
 -- What is written for one purge, member or peer after another is what is written for all of them.
 use Rattle.std.proofs.Common.{◌≡◌, ℕ, zero, suc, ◌+◌, ◌<◌, Bool, true, false, MatchBool, List, [], ◌∷◌, ◌++◌, length, take, get_or, refl, sym, ap, ◌∙◌, subst}
 use Rattle.std.proofs.Common.{arith, append_assoc, append-nil}
+use Rattle.purge_rules.specs.Purges.{PurgeList}
 use Rattle.roster.specs.Lookups.{is_member}
 use Rattle.values_tables.specs.declared.plain.Tables.{Tables}
-use Rattle.cluster_console.specs.declared.check.MemberState.{MemberState}
-use Rattle.cluster_console.specs.Shown.{all_shown, member_line}
-use Rattle.cluster_console.specs.Played.{MembersTell}
+use Rattle.cluster_console.specs.Shown.{all_shown, is_outside, stands, member_line}
+use Rattle.cluster_console.specs.Played.{MemberTells, MembersTell}
 
 -- one more
 lines_more : {A : Type 0} (shown : A → List ℕ) (xs : List A) (i : ℕ) (x : A) → i < length xs → x ≡ get_or xs i x →
@@ -25,25 +25,26 @@ rows_more shown xs i next x start head text more one within is so_far wrote =
     ∙ ap (λ t. head ++ t) (sym (lines_more shown xs i x within is) ∙ ap (λ n. all_shown shown (take n xs)) (sym one)))
 
 -- one member more, if there is one
-member_by : (roster : Tables) (id : ℕ) (start head lines text more : List ℕ) (b : Bool) → is_member roster (suc id) ≡ b → MembersTell roster id lines →
-    text ≡ start ++ (head ++ lines) → MatchBool b ((s : MemberState) × (more ≡ text ++ member_line (suc id) s)) (more ≡ text) →
-    (x : List ℕ) × MembersTell roster (suc id) x × (more ≡ start ++ (head ++ x))
-member_by roster id start head lines text more true e tell so_far (s, wrote) =
-    let line = member_line (suc id) s in (
+member_by : (roster : Tables) (purges : PurgeList) (id : ℕ) (start head lines text more : List ℕ) (b : Bool) → is_member roster (suc id) ≡ b →
+    MembersTell roster purges id lines → text ≡ start ++ (head ++ lines) → MatchBool b (MemberTells roster purges (suc id) text more) (more ≡ text) →
+    (x : List ℕ) × MembersTell roster purges (suc id) x × (more ≡ start ++ (head ++ x))
+member_by roster purges id start head lines text more true e tell so_far (s, wrote) =
+    let line = member_line (suc id) (stands (is_outside roster purges (suc id)) s) in (
       lines ++ line,
-      (lines, tell, subst (λ b. MatchBool b ((t : MemberState) × (lines ++ line ≡ lines ++ member_line (suc id) t)) (lines ++ line ≡ lines)) (sym e) (s, refl)),
+      (lines, tell, subst (λ b. MatchBool b (MemberTells roster purges (suc id) lines (lines ++ line)) (lines ++ line ≡ lines)) (sym e) (s, refl)),
       wrote ∙ ap (λ t. t ++ line) so_far ∙ append_assoc start (head ++ lines) line ∙ ap (λ t. start ++ t) (append_assoc head lines line),
     )
-member_by roster id start head lines text more false e tell so_far same = (
+member_by roster purges id start head lines text more false e tell so_far same = (
   lines,
-  (lines, tell, subst (λ b. MatchBool b ((t : MemberState) × (lines ≡ lines ++ member_line (suc id) t)) (lines ≡ lines)) (sym e) refl),
+  (lines, tell, subst (λ b. MatchBool b (MemberTells roster purges (suc id) lines lines) (lines ≡ lines)) (sym e) refl),
   same ∙ so_far,
 )
 
-pub member_more : (roster : Tables) (id next : ℕ) (start head lines text more : List ℕ) → next ≡ suc id → MembersTell roster id lines →
-    text ≡ start ++ (head ++ lines) → MatchBool (is_member roster next) ((s : MemberState) × (more ≡ text ++ member_line next s)) (more ≡ text) →
-    (x : List ℕ) × MembersTell roster next x × (more ≡ start ++ (head ++ x))
-member_more roster id next start head lines text more one tell so_far told =
-    subst (λ n. (x : List ℕ) × MembersTell roster n x × (more ≡ start ++ (head ++ x))) (sym one)
-    (member_by roster id start head lines text more (is_member roster (suc id)) refl tell so_far
-    (subst (λ n. MatchBool (is_member roster n) ((s : MemberState) × (more ≡ text ++ member_line n s)) (more ≡ text)) one told))
+pub member_more : (roster : Tables) (purges : PurgeList) (id next : ℕ) (start head lines text more : List ℕ) → next ≡ suc id →
+    MembersTell roster purges id lines → text ≡ start ++ (head ++ lines) →
+    MatchBool (is_member roster next) (MemberTells roster purges next text more) (more ≡ text) →
+    (x : List ℕ) × MembersTell roster purges next x × (more ≡ start ++ (head ++ x))
+member_more roster purges id next start head lines text more one tell so_far told =
+    subst (λ n. (x : List ℕ) × MembersTell roster purges n x × (more ≡ start ++ (head ++ x))) (sym one)
+    (member_by roster purges id start head lines text more (is_member roster (suc id)) refl tell so_far
+    (subst (λ n. MatchBool (is_member roster n) (MemberTells roster purges n text more) (more ≡ text)) one told))

@@ -3,11 +3,11 @@ use Rattle.std.proofs.Common.{◌≡◌, ℕ, zero, suc, ◌+◌, ◌<◌, ◌�
 use Rattle.std.proofs.Common.{◌∙◌, subst, arith, append_assoc, append-nil, length-append, length-take, take_all}
 use Rattle.std.proofs.lemmas.Bool.Decides.{nat_tests}
 use Rattle.std.proofs.lemmas.List.{take-append-le}
-use Rattle.std.specs.Io.KnownBytes.{Keeps, Consumes, IsAtEnd}
+use Rattle.std.specs.Io.KnownBytes.{Consumes}
 use Rattle.values_lines.specs.Lines.{newline, lines_of, in_first, is_long}
 use Rattle.cluster_console.specs.declared.input.Taken.{Taken}
 use Rattle.cluster_console.specs.declared.input.Taken.TheVariants as taken
-use Rattle.cluster_console.specs.Taking.{TakesOctet, TakesLine, IsLength, IsLast, HasNoEnd, IsFront, Taking}
+use Rattle.cluster_console.specs.Taking.{TakesOctet, TakesLine, IsLength, IsLast, HasNoEnd, Taking}
 
 -- LF ends a line
 line_ended : (front rest : List ℕ) → HasNoEnd front → lines_of (front ++ newline ∷ rest) ≡ front ∷ lines_of rest

@@ -4,9 +4,10 @@ use Rattle.values_lines.specs.Words.{decimal_below}
 use Rattle.cluster_console.specs.declared.line.Line.{Line}
 use Rattle.cluster_console.specs.declared.line.Line.TheVariants as lines
 
--- what a line asks for: ids and purges are numbers, URLs are octets
+-- what a line asks for: ids, purges and admissions are numbers, URLs are octets
 pub data Command : Type 0 where
   PurgeLine : (url : List ℕ) → Command
+  AdmitLine : (node : ℕ) → Command
   StatusLine : (number : ℕ) → Command
   GetLine : (node : ℕ) (url : List ℕ) → Command
   CheckLine : Command
@@ -18,6 +19,7 @@ pub data Command : Type 0 where
 -- a line as the code has it
 abbrev pub command_text : Line → Command
 command_text (lines.Purge url) = PurgeLine url.now
+command_text (lines.Admit node) = AdmitLine node
 command_text (lines.Status number) = StatusLine number
 command_text (lines.Get node url) = GetLine node url.now
 command_text lines.Check = CheckLine
@@ -39,6 +41,15 @@ abbrev pub purge_of : List ℕ → Command
 purge_of [] = BadLine
 purge_of (octet ∷ octets) = PurgeLine (octet ∷ octets)
 
+-- `admit N`, by the number that N is
+abbrev pub admit_by : Option ℕ → Command
+admit_by None = BadLine
+admit_by (Some node) = AdmitLine node
+
+-- `admit N`, where N is a number of 8 bits
+abbrev pub admit_of : List ℕ → Command
+admit_of word = admit_by (decimal_below (2 ^ 8) word)
+
 -- `status P`, by the number that P is
 abbrev pub status_by : Option ℕ → Command
 status_by None = BadLine
@@ -52,6 +63,7 @@ status_of word = status_by (decimal_below (2 ^ 32) word)
 abbrev pub with_one : List ℕ → List ℕ → Command
 with_one keyword word =
     if bytes_eq keyword (codes "purge") then purge_of word
+    else if bytes_eq keyword (codes "admit") then admit_of word
     else if bytes_eq keyword (codes "status") then status_of word else BadLine
 
 -- `get N URL`, by the number that N is

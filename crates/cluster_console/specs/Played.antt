@@ -9,6 +9,7 @@ use Rattle.http_messages.specs.declared.fault.FetchFault.{FetchFault}
 use Rattle.purge_rules.specs.declared.calls.Status.{Status}
 use Rattle.purge_rules.specs.declared.fault.MasterFault.{MasterFault}
 use Rattle.purge_rules.specs.declared.fault.MasterFault.TheVariants.{ShiftFull}
+use Rattle.purge_rules.specs.Needed.{nodes_of}
 use Rattle.purge_rules.specs.Purges.{PurgeList, AreNumbered}
 use Rattle.roster.specs.Lookups.{member_of, is_member}
 use Rattle.values_plain.specs.declared.address.Address.{Address}
@@ -19,8 +20,10 @@ use Rattle.cluster_console.specs.declared.check.Checked.{Checked}
 use Rattle.cluster_console.specs.declared.check.DeadPeer.{DeadPeer}
 use Rattle.cluster_console.specs.declared.check.MemberState.{MemberState}
 use Rattle.cluster_console.specs.Checked.{Gathered, GoesOn, IsChecked}
-use Rattle.cluster_console.specs.Command.{Command, PurgeLine, StatusLine, GetLine, CheckLine, PendingLine, MembersLine, PeersLine, BadLine, command_of}
-use Rattle.cluster_console.specs.Shown.{purge_shown, asked_shown, got_shown, checked_shown, pending_shown, member_line, peers_shown}
+use Rattle.cluster_console.specs.Command.{Command, PurgeLine, AdmitLine, StatusLine, GetLine, CheckLine, PendingLine, MembersLine, PeersLine}
+use Rattle.cluster_console.specs.Command.{BadLine, command_of}
+use Rattle.cluster_console.specs.Shown.{purge_shown, admission_shown, asked_shown, got_shown, checked_shown, pending_shown, is_outside, stands}
+use Rattle.cluster_console.specs.Shown.{member_line, peers_shown}
 
 -- the fault of a URL that has no key, or what is told of a URL that has one
 abbrev pub IsSaidOf : (List ℕ → Type 0) → Result (List ℕ) KeyFault → List ℕ → Type 0
@@ -39,7 +42,11 @@ IsTold fault = fault ≢ ShiftFull
 abbrev pub TellsPurge : List ℕ → Type 0
 TellsPurge text = (issued : Result ℕ MasterFault) × IfErr issued IsTold × (text ≡ purge_shown issued)
 
--- how far the purge of this number is, or why the master does not tell
+-- the number of an admission, or why there is none
+abbrev pub TellsAdmission : List ℕ → Type 0
+TellsAdmission text = (admitted : Result ℕ MasterFault) × IfErr admitted IsTold × (text ≡ admission_shown admitted)
+
+-- how far this number is, or why the master does not tell
 abbrev pub TellsStatus : ℕ → List ℕ → Type 0
 TellsStatus number text = (asked : Result Status MasterFault) × IfErr asked IsTold × (text ≡ asked_shown number asked)
 
@@ -59,21 +66,29 @@ abbrev pub TellsCheck : Tables → Option Gathered → List ℕ → Type 0
 TellsCheck roster gathered text = (checked : Checked) × IsChecked roster gathered checked
     × (text ≡ checked_shown checked)
 
--- the pending purges of a master, which no contract sees
+-- the pending purges and admissions of a master, which no contract sees
 abbrev pub TellsPending : Tables → List ℕ → Type 0
-TellsPending roster text = (purges : PurgeList) × AreNumbered purges × (text ≡ pending_shown roster purges.pending)
+TellsPending roster text = (purges : PurgeList) × AreNumbered purges × (text ≡ pending_shown (nodes_of roster) purges)
 
--- the lines of the members with an id of at most this one, by id; how a member stands no contract can say
-abbrev pub MembersTell : Tables → ℕ → List ℕ → Type 0
-MembersTell roster zero text = text ≡ []
-MembersTell roster (suc id) text = (before : List ℕ) × MembersTell roster id before
-    × MatchBool (is_member roster (suc id)) ((s : MemberState) × (text ≡ before ++ member_line (suc id) s))
-    (text ≡ before)
+-- a member's line behind this text; whether it is open or closed no contract can say
+abbrev pub MemberTells : Tables → PurgeList → ℕ → List ℕ → List ℕ → Type 0
+MemberTells roster purges id before text =
+    (s : MemberState) × (text ≡ before ++ member_line id (stands (is_outside roster purges id) s))
+
+-- the lines of the members with an id of at most this one, by id
+abbrev pub MembersTell : Tables → PurgeList → ℕ → List ℕ → Type 0
+MembersTell roster purges zero text = text ≡ []
+MembersTell roster purges (suc id) text = (before : List ℕ) × MembersTell roster purges id before
+    × MatchBool (is_member roster (suc id)) (MemberTells roster purges (suc id) before text) (text ≡ before)
 
 -- how many members there are, and then each of them
-abbrev pub TellsMembers : Tables → List ℕ → Type 0
-TellsMembers roster text = (lines : List ℕ) × MembersTell roster 16 lines
+abbrev pub TellsEach : Tables → PurgeList → List ℕ → Type 0
+TellsEach roster purges text = (lines : List ℕ) × MembersTell roster purges 16 lines
     × (text ≡ codes "members " ++ decimal (length roster.members) ++ lines)
+
+-- the same: who is outside, the admissions of a master say, which no contract sees
+abbrev pub TellsMembers : Tables → List ℕ → Type 0
+TellsMembers roster text = (purges : PurgeList) × AreNumbered purges × TellsEach roster purges text
 
 -- some peers that members think dead; which, no contract can say
 abbrev pub TellsPeers : List ℕ → Type 0
@@ -82,6 +97,7 @@ TellsPeers text = (dead : List DeadPeer) × (text ≡ peers_shown dead)
 -- the text may answer what a line asks for
 abbrev pub CommandTells : Tables → Option Gathered → Command → List ℕ → Type 0
 CommandTells roster gathered (PurgeLine url) text = IsSaid TellsPurge url text
+CommandTells roster gathered (AdmitLine node) text = TellsAdmission text
 CommandTells roster gathered (StatusLine number) text = TellsStatus number text
 CommandTells roster gathered (GetLine node url) text = GetTells roster node url text
 CommandTells roster gathered CheckLine text = TellsCheck roster gathered text

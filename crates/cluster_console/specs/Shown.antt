@@ -1,5 +1,6 @@
 -- How the answers of a cluster's script read.
-use Rattle.std.specs.Prelude.{ℕ, zero, suc, Bool, not, ◌&&◌, List, [], ◌∷◌, ◌++◌, length, codes, decimal, if◌then◌else◌, Result, Ok, Err}
+use Rattle.std.specs.Prelude.{ℕ, zero, suc, Bool, true, not, ◌&&◌, ◌==◌, List, [], ◌∷◌, ◌++◌, length, codes, decimal, if◌then◌else◌, Result, Ok, Err}
+use Rattle.std.specs.List.{list_any}
 use Rattle.hex.specs.Hex.{encode_lower}
 use Rattle.http_messages.specs.Answer.{AnswerText}
 use Rattle.http_messages.specs.declared.fault.FetchFault.{FetchFault}
@@ -8,9 +9,13 @@ use Rattle.purge_rules.specs.declared.calls.Status.{Status}
 use Rattle.purge_rules.specs.declared.calls.Status.TheVariants as status
 use Rattle.purge_rules.specs.declared.fault.MasterFault.{MasterFault}
 use Rattle.purge_rules.specs.Names.{master_fault_name}
+use Rattle.purge_rules.specs.declared.nodes.Nodes.{Nodes}
 use Rattle.purge_rules.specs.declared.purges.Purge.{Purge}
+use Rattle.purge_rules.specs.declared.purges.Admission.{Admission}
 use Rattle.purge_rules.specs.Members.{is_among}
-use Rattle.roster.specs.Lookups.{is_member}
+use Rattle.purge_rules.specs.Purges.{PurgeList, pending_count}
+use Rattle.purge_rules.specs.Calls.{missing}
+use Rattle.roster.specs.Lookups.{is_founding}
 use Rattle.values_tables.specs.declared.plain.Tables.{Tables}
 use Rattle.values_lines.specs.Lines.{newline}
 use Rattle.run_rules.specs.declared.verdict.Cause.{Cause}
@@ -28,13 +33,18 @@ abbrev pub purge_shown : Result ℕ MasterFault → List ℕ
 purge_shown (Ok number) = codes "purge " ++ decimal number
 purge_shown (Err fault) = master_fault_name fault
 
--- how far the purge of a number is
+-- the number of an admission, or the fault's name
+abbrev pub admission_shown : Result ℕ MasterFault → List ℕ
+admission_shown (Ok number) = codes "admitted " ++ decimal number
+admission_shown (Err fault) = master_fault_name fault
+
+-- how far a number is
 abbrev pub status_shown : ℕ → Status → List ℕ
 status_shown number status.Unknown = codes "unknown"
 status_shown number (status.Pending missing) = codes "pending " ++ decimal missing
 status_shown number status.Done = codes "done " ++ decimal number
 
--- how far the purge of a number is, or the fault's name
+-- how far a number is, or the fault's name
 abbrev pub asked_shown : ℕ → Result Status MasterFault → List ℕ
 asked_shown number (Ok s) = status_shown number s
 asked_shown number (Err fault) = master_fault_name fault
@@ -80,37 +90,61 @@ abbrev pub ids_shown : (ℕ → Bool) → ℕ → List ℕ
 ids_shown is_told zero = []
 ids_shown is_told (suc id) = ids_shown is_told id ++ id_shown (is_told (suc id)) (suc id)
 
--- the member has not acknowledged the purge
-abbrev pub is_missing : Tables → Purge → ℕ → Bool
-is_missing roster p id = is_member roster id && not (is_among id p.marked)
+-- the ids among these of 1 to 16, in order, each behind a space
+unfoldable pub among_shown : List ℕ → List ℕ
+among_shown ids = ids_shown (λ id. is_among id ids) 16
 
--- the ids of the members that have not acknowledged the purge, in order, each behind a space
-unfoldable pub missing_shown : Tables → Purge → List ℕ
-missing_shown roster p = ids_shown (is_missing roster p) 16
+-- a pending number, on a line of its own behind others: the number, what it is of, and the ids of the members that have
+-- not acknowledged it
+abbrev pub number_line : Nodes → PurgeList → ℕ → List ℕ → List ℕ
+number_line nodes purges number what =
+    newline ∷ decimal number ++ codes " " ++ what ++ among_shown (missing nodes purges number)
 
--- a pending purge, on a line of its own behind others: its number, its URL, and the ids of the members that have not
--- acknowledged it
-abbrev pub pending_line : Tables → Purge → List ℕ
-pending_line roster p = newline ∷ decimal p.number ++ codes " " ++ p.key ++ missing_shown roster p
+-- a pending purge: its URL
+abbrev pub pending_line : Nodes → PurgeList → Purge → List ℕ
+pending_line nodes purges p = number_line nodes purges p.number p.key
+
+-- an admission, if it is pending
+abbrev pub admission_line : Nodes → PurgeList → Admission → List ℕ
+admission_line nodes purges a = if a.is_done then [] else number_line nodes purges a.number (codes "admission")
 
 -- what is shown of each, one after another
 abbrev pub all_shown : {A : Type 0} → (A → List ℕ) → List A → List ℕ
 all_shown shown [] = []
 all_shown shown (x ∷ xs) = shown x ++ all_shown shown xs
 
--- pending purges, each on a line of its own
-abbrev pub pending_lines : Tables → List Purge → List ℕ
-pending_lines roster ps = all_shown (pending_line roster) ps
+-- how many purges and admissions are pending
+abbrev pub pending_head : PurgeList → List ℕ
+pending_head purges = codes "purges " ++ decimal (pending_count purges)
 
--- how many purges are pending, and then each of them
-abbrev pub pending_shown : Tables → List Purge → List ℕ
-pending_shown roster ps = codes "purges " ++ decimal (length ps) ++ pending_lines roster ps
+-- the pending admissions, each on a line of its own, by number
+abbrev pub admission_lines : Nodes → PurgeList → List ℕ
+admission_lines nodes purges = all_shown (admission_line nodes purges) purges.admissions
+
+-- how many purges and admissions are pending, then the admissions, and then the purges
+abbrev pub pending_shown : Nodes → PurgeList → List ℕ
+pending_shown nodes purges =
+    (pending_head purges ++ admission_lines nodes purges) ++ all_shown (pending_line nodes purges) purges.pending
 
 -- how a member stands
 abbrev pub state_shown : MemberState → List ℕ
 state_shown state.Open = codes "open"
+state_shown state.Outside = codes "outside"
 state_shown state.StoreFault = codes "closed StoreFault"
 state_shown state.NoMemory = codes "closed NoMemory"
+
+-- an admission of the member is done
+abbrev pub is_in : PurgeList → ℕ → Bool
+is_in purges id = list_any (λ a. (a.member == id) && a.is_done) purges.admissions
+
+-- the member joins, and no admission of it is done
+abbrev pub is_outside : Tables → PurgeList → ℕ → Bool
+is_outside roster purges id = not (is_founding roster id) && not (is_in purges id)
+
+-- how a member stands that is open or closed, if it is outside or not
+abbrev pub stands : Bool → MemberState → MemberState
+stands true state.Open = state.Outside
+stands _ s = s
 
 -- a member, on a line of its own behind others: its id, and how it stands
 abbrev pub member_line : ℕ → MemberState → List ℕ

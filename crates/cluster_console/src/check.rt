@@ -24,6 +24,8 @@ pub enum Checked {
 pub enum MemberState {
     /// It serves, and takes purges.
     Open,
+    /// It joins, and serves nothing until its admission is done.
+    Outside,
     /// It serves nothing and takes no purge until a restart: its store failed.
     StoreFault,
     /// The same, since its store lacked memory.
@@ -57,7 +59,7 @@ pub trait Checker {
         ensures said { IfOk result (IsChecked roster.now (gathered self.new)) }
         ensures goes_on { GoesOn (gathered self.old) (gathered self.new) };
 
-    /// How the member of this id stands.
+    /// How the member of this id stands, whether it is outside or not.
     fn state(&self, id: u8) -> MemberState;
 
     /// Which peers the members think dead. `AllocError` comes where there is no memory for the

@@ -1,7 +1,7 @@
 //! What a line asks for.
 ghost use Rattle.std.specs.Prelude.{◌≡◌, map};
 ghost use Rattle.cluster_console.specs.Command.{command_text, command_of, alone, with_one};
-ghost use Rattle.cluster_console.specs.Command.{purge_of, status_of, with_two, get_of};
+ghost use Rattle.cluster_console.specs.Command.{purge_of, admit_of, status_of, with_two, get_of};
 
 use values_lines::{decimal_u8, decimal_u32};
 
@@ -9,13 +9,15 @@ use values_lines::{decimal_u8, decimal_u32};
 pub(crate) enum Line<'a> {
     /// `purge URL`: issue a purge.
     Purge { url: &'a [u8] },
-    /// `status P`: ask the master how far a purge is.
+    /// `admit N`: admit a joining member.
+    Admit { node: u8 },
+    /// `status P`: ask the master how far a purge or an admission is.
     Status { number: u32 },
     /// `get N URL`: ask a member, as a client.
     Get { node: u8, url: &'a [u8] },
     /// `check`: judge what was done so far.
     Check,
-    /// `pending`: ask the master which purges are pending.
+    /// `pending`: ask the master which purges and admissions are pending.
     Pending,
     /// `members`: ask how each member stands.
     Members,
@@ -61,6 +63,8 @@ fn line_with_one<'a>(keyword: &[u8], word: &'a [u8]) -> Line<'a>
 {
     if keyword == b"purge".as_slice() {
         purge_line(word)
+    } else if keyword == b"admit".as_slice() {
+        admit_line(word)
     } else if keyword == b"status".as_slice() {
         status_line(word)
     } else {
@@ -76,6 +80,16 @@ fn purge_line(url: &[u8]) -> Line<'_>
         Line::Bad
     } else {
         Line::Purge { url }
+    }
+}
+
+/// `admit N`.
+fn admit_line<'a>(node: &[u8]) -> Line<'a>
+    ensures { command_text result ≡ admit_of node.now }
+{
+    match decimal_u8(node) {
+        Some(node) => Line::Admit { node },
+        None => Line::Bad,
     }
 }
 

@@ -1,32 +1,33 @@
 //! The lines of an input, answered by a running hierarchy.
 ghost use Rattle.std.specs.Prelude.{◌≡◌, ◌≤◌, ◌&&◌, ◌++◌, [], ◌∷◌, ℕ, List, OnOk, IfErr, false};
-ghost use Rattle.std.specs.Prelude.{MatchBool, vec_capacity};
+ghost use Rattle.std.specs.Prelude.{true, MatchBool, vec_capacity};
 ghost use Rattle.roster.specs.Lookups.{is_member as is_member_of};
 ghost use Rattle.values_lines.specs.Lines.{is_long};
 ghost use Rattle.cluster_console.specs.Answering.{AppendsText, AnswersLine, AnswersTaken};
 ghost use Rattle.cluster_console.specs.Answering.{HasAnswered, is_over as is_over_by, ending_of};
 ghost use Rattle.cluster_console.specs.Checked.{GoesOn};
 ghost use Rattle.cluster_console.specs.Command.{command_text};
-ghost use Rattle.cluster_console.specs.Played.{IsSaid, IsTold, TellsPurge, TellsStatus};
+ghost use Rattle.cluster_console.specs.Played.{IsSaid, IsTold, TellsPurge, TellsAdmission};
+ghost use Rattle.cluster_console.specs.Played.{TellsStatus, MemberTells, TellsEach};
 ghost use Rattle.cluster_console.specs.Played.{TellsAnswer, TellsCheck, TellsPending, TellsMembers};
 ghost use Rattle.cluster_console.specs.Played.{TellsPeers, GetTells, CommandTells, LineTells};
 ghost use Rattle.cluster_console.specs.Played.{http_of as http_of_member};
-ghost use Rattle.cluster_console.specs.Shown.{member_line};
-ghost use Rattle.cluster_console.specs.declared.check.MemberState.{MemberState as AnyState};
+ghost use Rattle.cluster_console.specs.Shown.{is_in as is_in_purges};
+ghost use Rattle.cluster_console.specs.Shown.{is_outside as is_outside_member};
 
 use crate::check::Checker;
 use crate::input::{InputFailed, LONGEST_LINE, Taken, next_line};
 use crate::line::{Line, line_of};
 use crate::show::{
-    push_asked, push_checked, push_got, push_member, push_number, push_peers, push_pending,
-    push_purge,
+    push_admission, push_asked, push_checked, push_got, push_member, push_number, push_peers,
+    push_pending, push_purge, stands,
 };
 use cluster_fetch::exchange;
 use cluster_master::{MasterSender, SharedMaster};
 use cluster_streams::StreamPoll;
 use http_messages::{Answer, Ask, FetchFault};
 use http_writing::AskForm;
-use purge_rules::{MasterAnswer, MasterCall, MasterFault, PurgeStore, Status};
+use purge_rules::{MasterAnswer, MasterCall, MasterFault, Nodes, PurgeStore, Purges, Status};
 use roster::{LAST_MEMBER, Roster};
 use std::alloc::{AllocError, Global};
 use std::io::{BufReader, Read, Write};
@@ -78,16 +79,17 @@ struct Player<'a, S: PurgeStore, C, R> {
 /// one is taken. There may be any number of lines.
 ///
 /// The lines: `purge URL` issues a purge and prints `purge P`, the fault of a URL that has no key,
-/// or that of the master; `status P` prints `pending C`, `done P` or `unknown`, or the fault of the
+/// or that of the master; `admit N` admits member N, which joins, and prints `admitted P` or the
+/// fault of the master; `status P` prints `pending C`, `done P` or `unknown`, or the fault of the
 /// master; `get N URL` asks member N over HTTP, as a client, and prints the status and the body in
 /// hex (`-` where it is empty), or the name of the fault; `check` has the run so far judged, and
 /// prints `yes`, `no PLACE CAUSE`, `forgotten`, or why the records of a member are not given;
-/// `pending` prints `purges C`, and then a line for each pending purge: its number, its URL, and
-/// the ids of the members that have not acknowledged it; `members` prints `members C`, and then a
-/// line for each: its id, and `open`, `closed StoreFault` or `closed NoMemory`; `peers` prints
-/// `peers C`, and then a line `N P dead S` for each peer P that member N has thought dead for S
-/// seconds. Any other line, also one that names no member, prints `bad line`. Numbers are decimal,
-/// without leading zeros.
+/// `pending` prints `purges C`, and then a line for each pending admission and purge: its number,
+/// `admission` or its URL, and the ids of the members that it needs and that have not acknowledged
+/// it; `members` prints `members C`, and then a line for each: its id, and `open`, `outside`,
+/// `closed StoreFault` or `closed NoMemory`; `peers` prints `peers C`, and then a line `N P dead S`
+/// for each peer P that member N has thought dead for S seconds. Any other line, also one that names
+/// no member, prints `bad line`. Numbers are decimal, without leading zeros.
 ///
 /// A line of more than 140,000 octets prints `LineTooLong`, and one for which there is no memory
 /// `NoMemory`: a purge may have been issued then. An answer that the output does not take is lost.
@@ -251,7 +253,8 @@ impl<S: PurgeStore, C: Checker, R: Wait + Clock + Net> Player<'_, S, C, R> {
         text: &mut Vec<u8>,
         output: &mut O,
     ) -> bool
-        ensures answered { is_long line.now ≡ false → AnswersLine self.old.roster.now (C.gathered self.old.checker) line.now
+        ensures answered { is_long line.now ≡ false →
+            AnswersLine self.old.roster.now (C.gathered self.old.checker) line.now
             (O.contents output.old) (O.contents output.new) result
             (C.gathered self.new.checker) }
         ensures roster { self.new.roster.now ≡ self.old.roster.now }
@@ -296,6 +299,7 @@ impl<S: PurgeStore, C: Checker, R: Wait + Clock + Net> Player<'_, S, C, R> {
     {
         match line {
             Line::Purge { url } => self.purge(alloc, url, text),
+            Line::Admit { node } => self.admit(node, text),
             Line::Status { number } => self.status(number, text),
             Line::Get { node, url } => self.get(alloc, node, url, text),
             Line::Check => self.check(alloc, text),
@@ -321,6 +325,15 @@ impl<S: PurgeStore, C: Checker, R: Wait + Clock + Net> Player<'_, S, C, R> {
         }
     }
 
+    /// Answers `admit N`.
+    fn admit(&self, node: u8, text: &mut Vec<u8>) -> Result<(), AllocError>
+        ensures { OnOk result ((answer : List ℕ) × TellsAdmission answer
+            × (text.new.items ≡ text.old.items ++ answer)) }
+    {
+        let admitted = self.sender.admit(self.rt, self.roster, self.master, node);
+        push_admission(admitted, text)
+    }
+
     /// Answers `status P`.
     fn status(&self, number: u32, text: &mut Vec<u8>) -> Result<(), AllocError>
         ensures { OnOk result ((answer : List ℕ) × TellsStatus number answer
@@ -329,7 +342,7 @@ impl<S: PurgeStore, C: Checker, R: Wait + Clock + Net> Player<'_, S, C, R> {
         push_asked(number, self.asked(number), text)
     }
 
-    /// How far the purge of a number is.
+    /// How far a number is.
     fn asked(&self, number: u32) -> Result<Status, MasterFault>
         ensures { IfErr result IsTold }
     {
@@ -358,7 +371,7 @@ impl<S: PurgeStore, C: Checker, R: Wait + Clock + Net> Player<'_, S, C, R> {
             × (text.new.items ≡ text.old.items ++ answer)) }
     {
         let purges = self.master.purges(self.rt)?;
-        push_pending(self.roster, &purges, text)
+        push_pending(&Nodes::of(self.roster), &purges, text)
     }
 
     /// Answers `members`.
@@ -366,24 +379,35 @@ impl<S: PurgeStore, C: Checker, R: Wait + Clock + Net> Player<'_, S, C, R> {
         ensures { OnOk result ((answer : List ℕ) × TellsMembers self.now.roster.now answer
             × (text.new.items ≡ text.old.items ++ answer)) }
     {
+        let purges = self.master.purges(self.rt)?;
+        self.tell_members(&purges, text)
+    }
+
+    /// Writes how many members there are, and how each stands.
+    fn tell_members(&self, purges: &Purges, text: &mut Vec<u8>) -> Result<(), AllocError>
+        ensures { OnOk result ((answer : List ℕ)
+            × TellsEach self.now.roster.now purges.now answer
+            × (text.new.items ≡ text.old.items ++ answer)) }
+    {
         text.extend_from_slice(b"members ")?;
         push_number(self.roster.members().len() as u64, text)?;
         for place in 0..LAST_MEMBER {
-            self.member(place + 1, text)?;
+            self.member(purges, place + 1, text)?;
         }
         Ok(())
     }
 
     /// Writes how the member of this id stands, if there is one.
-    fn member(&self, id: u8, text: &mut Vec<u8>) -> Result<(), AllocError>
+    fn member(&self, purges: &Purges, id: u8, text: &mut Vec<u8>) -> Result<(), AllocError>
         ensures { OnOk result (MatchBool (is_member_of self.now.roster.now id)
-            ((s : AnyState) × (text.new.items ≡ text.old.items ++ member_line id s))
+            (MemberTells self.now.roster.now purges.now id text.old.items text.new.items)
             (text.new.items ≡ text.old.items)) }
     {
         if !self.roster.is_member(id) {
             return Ok(());
         }
-        push_member(id, self.checker.state(id), text)
+        let is_outside = is_outside(self.roster, purges, id);
+        push_member(id, stands(is_outside, self.checker.state(id)), text)
     }
 
     /// Answers `peers`.
@@ -452,6 +476,24 @@ impl<S: PurgeStore, C: Checker, R: Wait + Clock + Net> Player<'_, S, C, R> {
         let poll = &mut self.poll;
         exchange(self.rt, alloc, poll, at, &ask, AskForm::Absolute, CLIENT)
     }
+}
+
+/// Whether the member of this id has an admission that is done.
+fn is_in(purges: &Purges, id: u8) -> bool
+    ensures { result ≡ is_in_purges purges.now id }
+{
+    purges
+        .admissions()
+        .iter()
+        .any(|admission| admission.member == id && admission.is_done)
+}
+
+/// Whether the member of this id joins, and no admission of it is done.
+fn is_outside(roster: &Roster, purges: &Purges, id: u8) -> bool
+    requires { is_member_of roster.now id ≡ true }
+    ensures { result ≡ is_outside_member roster.now purges.now id }
+{
+    !roster.is_founding(id) && !is_in(purges, id)
 }
 
 /// Where the member of this id serves HTTP.

@@ -1,18 +1,22 @@
 //! How the answer to a line reads.
-ghost use Rattle.std.specs.Prelude.{◌≡◌, ◌++◌, ◌≤◌, OnOk, IfOk, IsTrue, decimal};
+ghost use Rattle.std.specs.Prelude.{◌≡◌, ◌++◌, ◌≤◌, OnOk, IfOk, IsTrue, decimal, filter, length};
+ghost use Rattle.std.specs.Prelude.{not};
 ghost use Rattle.http_messages.specs.Answer.{is_writable};
-ghost use Rattle.cluster_console.specs.Shown.{purge_shown, status_shown, asked_shown, got_shown};
-ghost use Rattle.cluster_console.specs.Shown.{body_shown, answer_shown};
+ghost use Rattle.purge_rules.specs.Purges.{pending_count as count_of_pending};
+ghost use Rattle.cluster_console.specs.Shown.{purge_shown, admission_shown, status_shown};
+ghost use Rattle.cluster_console.specs.Shown.{asked_shown, got_shown, body_shown, answer_shown};
 ghost use Rattle.cluster_console.specs.Shown.{cause_name as name_of_cause, verdict_shown};
-ghost use Rattle.cluster_console.specs.Shown.{checked_shown, id_shown, missing_shown, pending_line};
-ghost use Rattle.cluster_console.specs.Shown.{pending_shown, state_shown, member_line, peer_line};
-ghost use Rattle.cluster_console.specs.Shown.{peers_shown};
+ghost use Rattle.cluster_console.specs.Shown.{checked_shown, id_shown, among_shown};
+ghost use Rattle.cluster_console.specs.Shown.{number_line, pending_line, admission_line};
+ghost use Rattle.cluster_console.specs.Shown.{pending_head, admission_lines, pending_shown};
+ghost use Rattle.cluster_console.specs.Shown.{state_shown, stands as stands_by, member_line};
+ghost use Rattle.cluster_console.specs.Shown.{peer_line, peers_shown};
 
 use crate::check::{Checked, DeadPeer, MemberState};
 use http_messages::{Answer, FetchFault};
 use itoa::Buffer;
-use purge_rules::{MasterFault, Purge, Purges, Status};
-use roster::{LAST_MEMBER, Roster};
+use purge_rules::{Admission, MasterFault, MemberSet, Nodes, Purge, Purges, Status};
+use roster::LAST_MEMBER;
 use run_rules::{Cause, Verdict};
 use std::alloc::{AllocError, Global};
 
@@ -40,7 +44,23 @@ pub(crate) fn push_purge(
     }
 }
 
-/// Writes how far the purge of a number is.
+/// Writes the number of an admission, or why there is none.
+pub(crate) fn push_admission(
+    admitted: Result<u32, MasterFault>,
+    text: &mut Vec<u8>,
+) -> Result<(), AllocError>
+    ensures { OnOk result (text.new.items ≡ text.old.items ++ admission_shown admitted) }
+{
+    match admitted {
+        Ok(number) => {
+            text.extend_from_slice(b"admitted ")?;
+            push_number(u64::from(number), text)
+        }
+        Err(fault) => text.extend_from_slice(fault.name().as_bytes()),
+    }
+}
+
+/// Writes how far a number is.
 fn push_status(number: u32, status: Status, text: &mut Vec<u8>) -> Result<(), AllocError>
     ensures { OnOk result (text.new.items ≡ text.old.items ++ status_shown number status) }
 {
@@ -57,7 +77,7 @@ fn push_status(number: u32, status: Status, text: &mut Vec<u8>) -> Result<(), Al
     }
 }
 
-/// Writes how far the purge of a number is, or why the master does not tell.
+/// Writes how far a number is, or why the master does not tell.
 pub(crate) fn push_asked(
     number: u32,
     asked: Result<Status, MasterFault>,
@@ -156,45 +176,111 @@ fn push_id(is_told: bool, id: u8, text: &mut Vec<u8>) -> Result<(), AllocError>
     push_number(u64::from(id), text)
 }
 
-/// Writes the ids of the members that have not acknowledged a purge, each behind a space.
-#[tactic(auto, unfolding(crate::specs::Shown::missing_shown))]
-fn push_missing(roster: &Roster, purge: &Purge, text: &mut Vec<u8>) -> Result<(), AllocError>
-    ensures { OnOk result (text.new.items
-        ≡ text.old.items ++ missing_shown roster.now purge.now) }
+/// Writes the ids of these members, each behind a space.
+#[tactic(auto, unfolding(crate::specs::Shown::among_shown))]
+fn push_among(members: MemberSet, text: &mut Vec<u8>) -> Result<(), AllocError>
+    ensures { OnOk result (text.new.items ≡ text.old.items ++ among_shown members) }
 {
     for place in 0..LAST_MEMBER {
         let id = place + 1;
-        let is_missing = roster.is_member(id) && !purge.marked.has(id);
-        push_id(is_missing, id, text)?;
+        push_id(members.has(id), id, text)?;
     }
     Ok(())
 }
 
-/// Writes a pending purge on a line of its own, behind others.
-fn push_pending_line(roster: &Roster, purge: &Purge, text: &mut Vec<u8>) -> Result<(), AllocError>
+/// Writes a pending number on a line of its own, behind others: what it is of, and the members that
+/// have not acknowledged it.
+fn push_number_line(
+    nodes: &Nodes,
+    purges: &Purges,
+    number: u32,
+    what: &[u8],
+    text: &mut Vec<u8>,
+) -> Result<(), AllocError>
     ensures { OnOk result (text.new.items
-        ≡ text.old.items ++ pending_line roster.now purge.now) }
+        ≡ text.old.items ++ number_line nodes.now purges.now number what.now) }
 {
     text.extend_from_slice(b"\n")?;
-    push_number(u64::from(purge.number), text)?;
+    push_number(u64::from(number), text)?;
     text.extend_from_slice(b" ")?;
-    text.extend_from_slice(purge.key.text())?;
-    push_missing(roster, purge, text)
+    text.extend_from_slice(what)?;
+    push_among(purges.missing(nodes, number), text)
 }
 
-/// Writes how many purges are pending, and then each of them.
+/// Writes a pending purge on a line of its own, behind others.
+fn push_pending_line(
+    nodes: &Nodes,
+    purges: &Purges,
+    purge: &Purge,
+    text: &mut Vec<u8>,
+) -> Result<(), AllocError>
+    ensures { OnOk result (text.new.items
+        ≡ text.old.items ++ pending_line nodes.now purges.now purge.now) }
+{
+    push_number_line(nodes, purges, purge.number, purge.key.text(), text)
+}
+
+/// Writes an admission on a line of its own, behind others, if it is pending.
+fn push_admission_line(
+    nodes: &Nodes,
+    purges: &Purges,
+    admission: &Admission,
+    text: &mut Vec<u8>,
+) -> Result<(), AllocError>
+    ensures { OnOk result (text.new.items
+        ≡ text.old.items ++ admission_line nodes.now purges.now admission.now) }
+{
+    if admission.is_done {
+        return Ok(());
+    }
+    push_number_line(nodes, purges, admission.number, b"admission", text)
+}
+
+/// How many of these admissions are pending.
+#[tactic(auto, using(crate::proofs::Counts::filter_fits))]
+fn count_pending(admissions: &[Admission]) -> usize
+    ensures value { result ≡ length (filter (λ a. not a.is_done) admissions.now) }
+    ensures fits { result ≤ length admissions.now }
+{
+    admissions
+        .iter()
+        .filter(|admission| !admission.is_done)
+        .count()
+}
+
+/// How many purges and admissions are pending.
+fn pending_count(purges: &Purges) -> u64
+    ensures { result ≡ count_of_pending purges.now }
+{
+    let (pending, admissions) = (purges.pending(), purges.admissions());
+    pending.len() as u64 + count_pending(admissions) as u64
+}
+
+/// Writes how many purges and admissions are pending, and then each admission.
+fn push_admissions(nodes: &Nodes, purges: &Purges, text: &mut Vec<u8>) -> Result<(), AllocError>
+    ensures { OnOk result (text.new.items ≡ text.old.items
+        ++ (pending_head purges.now ++ admission_lines nodes.now purges.now)) }
+{
+    text.extend_from_slice(b"purges ")?;
+    push_number(pending_count(purges), text)?;
+    for admission in purges.admissions() {
+        push_admission_line(nodes, purges, admission, text)?;
+    }
+    Ok(())
+}
+
+/// Writes how many purges and admissions are pending, then each admission, and then each purge.
 pub(crate) fn push_pending(
-    roster: &Roster,
+    nodes: &Nodes,
     purges: &Purges,
     text: &mut Vec<u8>,
 ) -> Result<(), AllocError>
     ensures { OnOk result (text.new.items
-        ≡ text.old.items ++ pending_shown roster.now purges.now.pending) }
+        ≡ text.old.items ++ pending_shown nodes.now purges.now) }
 {
-    text.extend_from_slice(b"purges ")?;
-    push_number(purges.len() as u64, text)?;
+    push_admissions(nodes, purges, text)?;
     for purge in purges.pending() {
-        push_pending_line(roster, purge, text)?;
+        push_pending_line(nodes, purges, purge, text)?;
     }
     Ok(())
 }
@@ -205,8 +291,19 @@ const fn state_name(state: MemberState) -> &'static str
 {
     match state {
         MemberState::Open => "open",
+        MemberState::Outside => "outside",
         MemberState::StoreFault => "closed StoreFault",
         MemberState::NoMemory => "closed NoMemory",
+    }
+}
+
+/// How a member stands that is open or closed, if it is outside or not.
+pub(crate) fn stands(is_outside: bool, state: MemberState) -> MemberState
+    ensures { result ≡ stands_by is_outside state }
+{
+    match (is_outside, state) {
+        (true, MemberState::Open) => MemberState::Outside,
+        (_, state) => state,
     }
 }
 

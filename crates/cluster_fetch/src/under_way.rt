@@ -70,7 +70,12 @@ impl Model for Fetching {
 
     ghost Value = { FetchingView };
 
-    ghost view = { λ f. record { source = f.source; serial = f.serial; key = f.key; lacked = f.has_lacked } };
+    ghost view = { λ f. record {
+      source = f.source;
+      serial = f.serial;
+      key = f.key;
+      lacked = f.has_lacked;
+    } };
 }
 
 /// The form of the request target: that for a proxy to a peer, that for an origin to an origin (RFC

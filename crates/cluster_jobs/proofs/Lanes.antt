@@ -53,7 +53,8 @@ one_else k s apart = by_test (at_of s == k) refl where
   by_test false is = rw is refl
 
 -- all jobs are those at the six places
-pub all_six : (xs : List Sight) → length xs ≡ length (at_place 0 xs) + length (at_place 1 xs) + length (at_place 2 xs) + length (at_place 3 xs) + length (at_place 4 xs) + length (at_place 5 xs)
+pub all_six : (xs : List Sight) → length xs
+    ≡ length (at_place 0 xs) + length (at_place 1 xs) + length (at_place 2 xs) + length (at_place 3 xs) + length (at_place 4 xs) + length (at_place 5 xs)
 all_six [] = refl
 all_six (sight.Datagram Master udp from octets ∷ xs) = let h = all_six xs in omega (arith, h)
 all_six (sight.Datagram Peer udp from octets ∷ xs) = let h = all_six xs in omega (arith, h)
@@ -82,7 +83,9 @@ has_room counts xs k are below room =
     let h = are.most 5 (omega arith) in
     by_place k below room all a b d e f h where
       by_place : (k : ℕ) → k < 6 → length (at_place k xs) < 256
-          → length xs ≡ length (at_place 0 xs) + length (at_place 1 xs) + length (at_place 2 xs) + length (at_place 3 xs) + length (at_place 4 xs) + length (at_place 5 xs)
+          → length xs
+          ≡ length (at_place 0 xs) + length (at_place 1 xs) + length (at_place 2 xs) + length (at_place 3 xs)
+          + length (at_place 4 xs) + length (at_place 5 xs)
           → length (at_place 0 xs) ≤ 256 → length (at_place 1 xs) ≤ 256 → length (at_place 2 xs) ≤ 256 → length (at_place 3 xs) ≤ 256
           → length (at_place 4 xs) ≤ 256 → length (at_place 5 xs) ≤ 256 → length xs < 1536
       by_place zero below room all a b d e f h = omega (arith, room, all, b, d, e, f, h)

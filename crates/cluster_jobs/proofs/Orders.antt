@@ -5,7 +5,7 @@ use Rattle.std.proofs.lemmas.List.{append_cancel_left}
 use Rattle.cluster_jobs.specs.declared.order.Sight.{Sight}
 use Rattle.cluster_jobs.specs.declared.order.Step.{Step}
 use Rattle.cluster_jobs.specs.declared.order.Step.TheVariants.{Put, Took}
-use Rattle.cluster_jobs.specs.Order.{put_in, taken_in, Begins, IsInOrder, Leaves, longer}
+use Rattle.cluster_jobs.specs.Order.{put_in, taken_in, Begins, IsInOrder, Leaves}
 
 -- each list is a beginning of itself
 pub begins_self : {A : Type 0} (xs : List A) → Begins xs xs

@@ -1,11 +1,11 @@
 -- What a pass knows after a call: what it knew, then the steps of others, and then its own.
-use Rattle.std.proofs.Common.{◌≡◌, List, [], ◌∷◌, ◌++◌, Option, None, Some, Result, Ok, Err, MatchOption, MatchResult, refl, sym, ap, ◌∙◌, subst}
+use Rattle.std.proofs.Common.{◌≡◌, List, [], ◌∷◌, ◌++◌, Option, None, Some, Result, Ok, Err, MatchOption, MatchResult, sym, ap, ◌∙◌, subst}
 use mathlib.Core.List.{IsPrefix}
 use Rattle.cluster_jobs.specs.declared.job.Job.{Job}
 use Rattle.cluster_jobs.specs.declared.order.Step.{Step}
 use Rattle.cluster_jobs.specs.declared.order.View.{View}
 use Rattle.cluster_jobs.specs.Lanes.{lane_of}
-use Rattle.cluster_jobs.specs.Order.{BacklogView, sight_of, put, took, Adds, Begins, Finds, Follows, IsEmpty, IsFull, IsInOrder}
+use Rattle.cluster_jobs.specs.Order.{BacklogView, sight_of, put, took, Adds, Finds, Follows, IsEmpty, IsFull, IsInOrder}
 
 -- a step of its own
 follows : (v w : View) (step : Step) (before after : BacklogView) → IsPrefix v.seen before.seen → Adds step before v.own after w.own

@@ -1,3 +1,4 @@
--- The files stand alone: read them in any order.
+-- The files stand alone, but for Calls, which uses Weights.
+mod Calls
 mod Clears
 mod Weights

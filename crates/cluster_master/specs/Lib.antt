@@ -1,4 +1,5 @@
 pub mod Weight
 pub mod LockedBook
+pub mod Settled
 pub mod Answers
 pub mod Names

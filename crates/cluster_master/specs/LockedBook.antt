@@ -21,17 +21,18 @@ pub record LockedBookView (S : Type 0) : Type 0 where
   pub to_keep : KeptEntries
   pub may_be_due : Bool
 
--- no CLR is due: the master is closed, or no member is missing of a pending purge
+-- no CLR is due: the master is closed, or no member is missing of a pending number
 abbrev pub IsNothingDue : {S : Type 0} → MasterView S → Type 0
-IsNothingDue master = (master.state.closed ≡ true) ⊎ (due master.members master.state.purges ≡ [])
+IsNothingDue master = (master.state.closed ≡ true) ⊎ (due master.nodes master.state.purges ≡ [])
 
 -- whether a CLR may be due after an answer: not once the answer is that nothing is due, or that the master is closed,
--- which it stays; but from the next purge or response on
+-- which it stays; but from the next number or response on
 abbrev pub may_be_due_after : Result MasterAnswer MasterFault → Bool → Bool
 may_be_due_after (Ok (answer.Due [])) was = false
 may_be_due_after (Ok (answer.Due (_ ∷ _))) was = true
 may_be_due_after (Ok (answer.Status _)) was = was
 may_be_due_after (Ok (answer.Issue _)) was = true
+may_be_due_after (Ok (answer.Admit _)) was = true
 may_be_due_after (Ok (answer.Acknowledge _)) was = true
 may_be_due_after (Err Closed) was = false
 may_be_due_after (Err _) was = was

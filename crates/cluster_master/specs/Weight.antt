@@ -12,7 +12,7 @@ abbrev pub call_octets : MasterCall → ℕ
 call_octets (call.Issue key) = min (length key) 1024
 call_octets _ = 0
 
--- the octets of the list in an answer, 8 for each number with its member; none is longer than 1,024 purges of 16 members
+-- the octets of the list in an answer, 8 for each number with its member; none is longer than 1,024 numbers of 16 members
 abbrev pub answer_octets : Result MasterAnswer MasterFault → ℕ
 answer_octets (Ok (answer.Due pairs)) = 8 * min (length pairs) 16384
 answer_octets _ = 0

@@ -8,14 +8,17 @@
 //!
 //! A [`MasterLoop`] has the master's UDP socket. [`MasterLoop::poll_once`] polls for 100
 //! milliseconds at most, makes the calls that datagrams ask for (responses to a CLR; RFC 2756,
-//! "CLR"), and sends again the CLR of each pending purge to each member that has not acknowledged
-//! it: after 20 milliseconds, and then after about twice the time, up to a second. Where nothing
-//! can be due, no call is made and none is entered. A [`MasterSender`] issues a purge and sends its
-//! CLR to each member, from any thread, on the same socket. No lock is held while a socket is
-//! waited for or written.
+//! "CLR"), and sends again the CLR of each pending number to each member that it needs and that has
+//! not acknowledged it: after 20 milliseconds, and then after about twice the time, up to a second.
+//! Where nothing can be due, no call is made and none is entered. Where a member was taken out of the
+//! roster, a purge may be pending that no member misses: from the start on its CLR is sent until a
+//! member that it needs has acknowledged it once more, which makes it done. A [`MasterSender`] issues a
+//! purge, or admits a member, and sends the CLR to each member that the number needs, from any
+//! thread, on the same socket. No lock is held while a socket is waited for or written.
 //!
 //! Order of reading: `specs/LockedBook.antt` (what a call does to the book), `specs/Weight.antt`
-//! (what its entries weigh), `specs/Answers.antt` (what a caller knows of an answer);
+//! (what its entries weigh), `specs/Answers.antt` (what a caller knows of an answer),
+//! `specs/Settled.antt` (which purges no member misses);
 //! `src/shared.rt` (the calls), `src/locked_book.rt` (the calls inside the lock), `src/weight.rt`,
 //! `src/master_loop.rt` (the loop), `src/sending.rt` (the CLRs), `src/schedule.rt` (when they are
 //! sent again), `src/fault.rt`, `specs/Names.antt`; `proofs/Clears.antt`, `proofs/Weights.antt`.
@@ -30,10 +33,10 @@
 //! sent, and that a second is a second, is tested. A CLR that the system does not take is lost, as
 //! any datagram may be; it is sent again.
 //!
-//! What it does not promise: `SharedMaster::call` and `MasterSender::issue` may answer `Closed` at
-//! once, `issue` may answer any number, and `message` may answer that no purge of the number is
-//! pending, since the master is under the lock. Tests issue purges, see their CLRs, and have them
-//! acknowledged.
+//! What it does not promise: `SharedMaster::call`, `MasterSender::issue` and `admit` may answer
+//! `Closed` at once, the latter two any number, `missing` any members, and `message` that the
+//! number is not pending, since the master is under the lock. Tests issue purges, admit a member,
+//! see the CLRs, and have them acknowledged.
 #![tactic(auto)]
 
 mod fault;

@@ -2,6 +2,8 @@
 ghost use Rattle.std.specs.Prelude.{◌≡◌, ◌≢◌, ◌⊎◌, ◌<◌, ◌++◌, [], length, false, IsFalse, Err};
 ghost use Rattle.std.specs.Prelude.{IfOk, IfSome, OnOk, OnErr};
 ghost use Rattle.htcp_wire.specs.Written.{Fits};
+ghost use Rattle.purge_rules.specs.Calls.{missing as missing_of};
+ghost use Rattle.purge_rules.specs.Needed.{needed as needed_of};
 ghost use Rattle.purge_master.specs.Store.{witness};
 ghost use Rattle.purge_rules.specs.declared.fault.MasterFault.TheVariants as faults;
 ghost use Rattle.cluster_master.specs.LockedBook.{IsCalledAt, IsUnmade, IsTaken, IsNothingDue};
@@ -9,12 +11,13 @@ ghost use Rattle.cluster_master.specs.LockedBook.{is_dropped, is_full_page, keep
 ghost use Rattle.cluster_master.specs.LockedBook.{may_be_due_after as may_be_due_by, ready, filed};
 ghost use Rattle.cluster_master.specs.LockedBook.{emptied};
 ghost use Rattle.cluster_master.specs.Answers.{IsToldOf, IsClearOf};
+ghost use Rattle.cluster_master.specs.Settled.{settled};
 
-use crate::weight::{answer_octets, call_octets, entry_weight};
+use crate::weight::{added_weight, answer_octets, call_octets};
 use htcp_wire::Htcp;
 use node_seats::Places;
 use purge_master::{MOST_ENTRIES, MasterBook, MasterEntry};
-use purge_rules::{MasterAnswer, MasterCall, MasterFault, PurgeStore, Purges};
+use purge_rules::{MasterAnswer, MasterCall, MasterFault, MemberSet, PurgeStore, Purges};
 use std::alloc::{AllocError, Global};
 use std::marker::Model;
 use std::mem::replace;
@@ -44,14 +47,14 @@ fn has_place(to_keep: KeptEntries, kept: u64) -> bool
 }
 
 /// Whether a CLR may be due after an answer. None is due once the answer is that nothing is due, or
-/// that the master is closed, which it stays. One may be due from the next purge or response on.
+/// that the master is closed, which it stays. One may be due from the next number or response on.
 fn may_be_due_after(answer: &Result<MasterAnswer, MasterFault>, was: bool) -> bool
     ensures { result ≡ may_be_due_by answer.now was }
 {
     match answer {
         Ok(MasterAnswer::Due(pairs)) => !pairs.as_slice().is_empty(),
         Ok(MasterAnswer::Status(_)) => was,
-        Ok(MasterAnswer::Issue(_) | MasterAnswer::Acknowledge(_)) => true,
+        Ok(MasterAnswer::Issue(_) | MasterAnswer::Admit(_) | MasterAnswer::Acknowledge(_)) => true,
         Err(MasterFault::Closed) => false,
         Err(_) => was,
     }
@@ -88,7 +91,12 @@ impl<S: PurgeStore> Model for LockedBook<S> {
 
     ghost coded = { Prim.hlevel (codes) };
 
-    ghost view = { λ locked. record { book = locked.book; kept = locked.kept.items; to_keep = locked.to_keep; may_be_due = locked.may_be_due } };
+    ghost view = { λ locked. record {
+      book = locked.book;
+      kept = locked.kept.items;
+      to_keep = locked.to_keep;
+      may_be_due = locked.may_be_due;
+    } };
 
     ghost invariant = { λ locked. (locked.may_be_due ≡ false → IsNothingDue locked.book.master)
         × (locked.weight ≡ weight_of_all locked.book.entries)
@@ -175,10 +183,9 @@ impl<S: PurgeStore> LockedBook<S> {
         let octets = call_octets(&call);
         let before = self.book.entries().len();
         let answer = self.book.call(place, call);
-        if before < self.book.entries().len() {
-            let entered = entry_weight(octets, answer_octets(&answer));
-            self.weight = self.weight.saturating_add(entered);
-        }
+        let is_entered = before < self.book.entries().len();
+        let entered = added_weight(is_entered, octets, answer_octets(&answer));
+        self.weight = self.weight.saturating_add(entered);
         self.may_be_due = may_be_due_after(&answer, self.may_be_due);
         answer
     }
@@ -191,7 +198,7 @@ impl<S: PurgeStore> LockedBook<S> {
         self.may_be_due
     }
 
-    /// The CLR of the pending purge of a number, if there is one.
+    /// The CLR of a number, if it is pending: that of its purge, or that of its admission.
     pub(crate) fn message(&self, number: u32) -> Result<Option<Htcp>, AllocError>
         ensures clear { IfOk result (λ message. IfSome message (IsClearOf number)) }
         ensures fits { IfOk result (λ message. IfSome message Fits) }
@@ -199,7 +206,38 @@ impl<S: PurgeStore> LockedBook<S> {
         self.book.message(number)
     }
 
-    /// A copy of the pending purges, with the last number.
+    /// The members that a number needs and that have not acknowledged it; none where it is not
+    /// pending.
+    pub(crate) fn missing(&self, number: u32) -> MemberSet
+        ensures { result ≡ missing_of self.now.book.master.nodes self.now.book.master.state.purges
+            number }
+    {
+        self.book.purges().missing(self.book.nodes(), number)
+    }
+
+    /// The members that a number needs, whether it is pending or not.
+    pub(crate) fn needed(&self, number: u32) -> MemberSet
+        ensures { result ≡ needed_of self.now.book.master.nodes
+            self.now.book.master.state.purges.admissions number }
+    {
+        self.book.purges().needed(self.book.nodes(), number)
+    }
+
+    /// The numbers of the pending purges that no member misses, ascending.
+    pub(crate) fn settled(&self) -> Result<Vec<u32>, AllocError>
+        ensures { IfOk result (λ numbers. numbers.items
+            ≡ settled self.now.book.master.nodes self.now.book.master.state.purges) }
+    {
+        let mut numbers = Vec::new(self.alloc);
+        for purge in self.book.purges().pending() {
+            if self.missing(purge.number).count() == 0 {
+                numbers.push(purge.number)?;
+            }
+        }
+        Ok(numbers)
+    }
+
+    /// A copy of the pending purges and the admissions, with the last number.
     pub(crate) fn purges(&self) -> Result<Purges, AllocError>
         ensures { IfOk result (λ purges. purges ≡ self.now.book.master.state.purges) }
     {

@@ -22,7 +22,7 @@ use std::time::{Clock, Duration};
 /// The poll token of the master's socket.
 const SOCKET: Token = Token(0);
 
-/// The poll token of what ends a poll once a purge was issued.
+/// The poll token of what ends a poll once a number was given.
 const WAKER: Token = Token(1);
 
 /// How many events one poll tells at most.
@@ -117,7 +117,7 @@ impl MasterLoop {
         }
     }
 
-    /// Polls until the socket is ready, a purge was issued, or something is to be sent again, for
+    /// Polls until the socket is ready, a number was given, or something is to be sent again, for
     /// 100 milliseconds at most.
     fn wait_for_datagrams<R: Wait + Clock>(&mut self, rt: &R) -> io::Result<()> {
         let most = Duration::from_millis(self.most_wait(rt));
@@ -167,11 +167,12 @@ impl MasterLoop {
         Ok(())
     }
 
-    /// Polls until the socket is ready, a purge was issued, or something is to be sent again, for
+    /// Polls until the socket is ready, a number was given, or something is to be sent again, for
     /// 100 milliseconds at most. Then makes the calls of the datagrams that are there, 256 at most;
-    /// the rest is for the next poll. Then sends the CLR of a pending purge again to each member
-    /// that has not acknowledged it: 20 milliseconds after it was issued, and from then on after
-    /// about twice the time, up to a second; about 256 CLRs each 10 milliseconds at most.
+    /// the rest is for the next poll. Then sends the CLR of a pending number again to each member
+    /// that it needs and that has not acknowledged it: 20 milliseconds after it was given, and from
+    /// then on after about twice the time, up to a second; about 256 CLRs each 10 milliseconds at
+    /// most.
     ///
     /// An error is the system's refusal of a poll, a read or the clock. What can be done all the
     /// same is done, and a later poll goes on. Where there is no memory for a call, it is lost, as

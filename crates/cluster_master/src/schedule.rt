@@ -1,4 +1,4 @@
-//! When the CLRs of pending purges are sent again.
+//! When the CLRs of pending purges are sent again. That of an admission is sent as a purge's is.
 ghost use Rattle.std.specs.Prelude.{◌≡◌, ◌≤◌, ◌*◌, length, min, IfErr};
 
 use std::alloc::Global;
@@ -12,6 +12,9 @@ const LONGEST_WAIT: u64 = 1_000;
 /// How many milliseconds pass at least from one sending of what is due to the next, which bounds
 /// how many datagrams are sent again in all.
 const PACE: u64 = 10;
+
+/// How many milliseconds pass between two sendings of purges that no member misses.
+const SETTLED_WAIT: u64 = 100;
 
 /// How many milliseconds after its first CLRs a pending purge is young: its members are taken to be
 /// at work on it.
@@ -80,6 +83,8 @@ pub(crate) struct Schedule {
     row: Vec<Again>,
     /// When the master is asked what is due, at the latest.
     look: u64,
+    /// When purges that no member misses are sent again; never where there are none.
+    settled: u64,
     /// When something is sent again, at the earliest.
     paced: u64,
     /// Up to this number a pending purge may lack an entry. One with a greater number that lacks
@@ -93,16 +98,18 @@ impl Schedule {
         Schedule {
             row: Vec::new(alloc),
             look: 0,
+            settled: u64::MAX,
             paced: 0,
             old: u32::MAX,
         }
     }
 
     /// Forgets when CLRs were sent: each pending purge up to this number, that of the last purge,
-    /// is due at once.
+    /// is due at once, and so is one that no member misses.
     pub(crate) fn restart(&mut self, last: u32) {
         self.row.clear();
         self.look = 0;
+        self.settled = 0;
         self.paced = 0;
         self.old = last;
     }
@@ -130,13 +137,27 @@ impl Schedule {
         self.row
             .iter()
             .map(|again| again.at)
-            .fold(self.look, |least, at| least.min(at))
+            .fold(self.look.min(self.settled), |least, at| least.min(at))
             .max(self.paced)
     }
 
     /// Drops the purges up to this number that are not among the pending ones.
     pub(crate) fn keep(&mut self, last: u32, pending: &[(u32, u8)]) {
         self.row.retain(|again| last < again.number || is_pending(pending, again.number));
+    }
+
+    /// Whether purges that no member misses are sent now. If so, the next time is set.
+    pub(crate) fn takes_settled(&mut self, now: u64) -> bool {
+        if now < self.settled {
+            return false;
+        }
+        self.settled = now.saturating_add(SETTLED_WAIT);
+        true
+    }
+
+    /// There are no purges that no member misses, or none of them can be made done.
+    pub(crate) fn end_settled(&mut self) {
+        self.settled = u64::MAX;
     }
 
     /// Begins to send what is due now. The master is asked again within a second.

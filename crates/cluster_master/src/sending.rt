@@ -1,4 +1,4 @@
-//! How the members are told of purges.
+//! How the members are told of purges and admissions.
 ghost use Rattle.std.specs.Prelude.{◌≡◌, ◌≢◌, IfErr, IfSome};
 ghost use Rattle.purge_rules.specs.declared.fault.MasterFault.TheVariants as faults;
 ghost use Rattle.cluster_master.specs.Answers.{AreClearOf, htcp_of as htcp_of_member};
@@ -7,7 +7,7 @@ use crate::schedule::Schedule;
 use crate::shared::SharedMaster;
 use mio::Waker;
 use mio::net::UdpSocket;
-use purge_rules::{MasterAnswer, MasterCall, MasterFault, PurgeStore};
+use purge_rules::{MasterAnswer, MasterCall, MasterFault, MemberSet, PurgeStore};
 use roster::{Address, LAST_MEMBER, Roster};
 use std::alloc::{AllocError, Global};
 use std::io;
@@ -15,10 +15,13 @@ use std::sync::{Arc, Mutex, Wait};
 use std::time::Clock;
 use url_key::Key;
 
-/// How many CLRs are sent again at once at most, beside those of the last purge among them.
+/// How many CLRs are sent again at once at most, beside those of the last number among them.
 const MOST_AGAIN: u32 = 256;
 
-/// Where the member of an id is told of purges: its HTCP address.
+/// How many purges that no member misses are sent at once at most.
+const MOST_SETTLED: usize = 64;
+
+/// Where CLRs are sent to the member of an id: its HTCP address.
 fn htcp_of(roster: &Roster, id: u8) -> Option<Address>
     ensures { result ≡ htcp_of_member roster.now id }
 {
@@ -28,7 +31,7 @@ fn htcp_of(roster: &Roster, id: u8) -> Option<Address>
     }
 }
 
-/// The octets of the CLR of a pending purge. None where it is no longer pending, or where there is
+/// The octets of the CLR of a pending number. None where it is no longer pending, or where there is
 /// no memory.
 fn clear_of<S: PurgeStore, R: Wait>(
     rt: &R,
@@ -61,7 +64,7 @@ pub(crate) struct Line {
     pub(crate) schedule: Mutex<Schedule>,
 }
 
-/// Issues purges and tells the members of them on the master's socket, from any thread.
+/// Issues purges, admits members, and sends their CLRs on the master's socket, from any thread.
 #[derive(Drop)]
 pub struct MasterSender {
     alloc: Global,
@@ -98,7 +101,16 @@ impl MasterSender {
         }
     }
 
-    /// Enters a new purge, so that its CLRs are sent again from 20 milliseconds on, and has the
+    /// Sends octets to each of these members, by ascending id, in the same way.
+    fn send_to_all(&self, roster: &Roster, members: MemberSet, octets: &[u8]) {
+        for id in 1..=LAST_MEMBER {
+            if members.has(id) {
+                self.send(roster, id, octets);
+            }
+        }
+    }
+
+    /// Enters a new number, so that its CLRs are sent again from 20 milliseconds on, and has the
     /// loop look.
     fn enter<R: Wait + Clock>(&self, rt: &R, number: u32) {
         // (without a clock the CLRs are sent again at once)
@@ -108,17 +120,32 @@ impl MasterSender {
         let _ = self.line.waker.wake();
     }
 
-    /// Has the loop send the CLR of each pending purge up to this number, that of the last purge,
-    /// as soon as it may, whenever it was sent before. The owner calls it once the members run,
-    /// while nobody issues a purge: what was sent to the members before is lost.
+    /// Has the loop send the CLR of each pending number up to this one, the last that was given, as
+    /// soon as it may, whenever it was sent before. The owner calls it once the members run, while
+    /// no number is given: what was sent to the members before is lost.
     pub fn send_afresh<R: Wait>(&self, rt: &R, last: u32) {
         self.line.schedule.lock(rt).restart(last);
         // (a loop that is not woken looks within 100 milliseconds)
         let _ = self.line.waker.wake();
     }
 
-    /// Issues a purge of a URL, and sends its CLR to each member, by ascending id (RFC 2756,
-    /// "CLR"). Returns the purge's number.
+    /// Enters a new number, and sends its CLR to each member that it needs, by ascending id.
+    fn announce<S: PurgeStore, R: Wait + Clock>(
+        &self,
+        rt: &R,
+        roster: &Roster,
+        master: &SharedMaster<S>,
+        number: u32,
+    ) {
+        self.enter(rt, number);
+        let missing = master.missing(rt, number);
+        if let Some(octets) = clear_of(rt, self.alloc, master, number) {
+            self.send_to_all(roster, missing, octets.as_slice());
+        }
+    }
+
+    /// Issues a purge of a URL, and sends its CLR to each member that it needs, by ascending id
+    /// (RFC 2756, "CLR"). Returns the purge's number.
     ///
     /// Faults: those of `Master::issue`, and `NoMemory` where there is no memory for the call;
     /// nothing is sent then. A CLR for which there is no memory, or that the system does not take,
@@ -134,12 +161,7 @@ impl MasterSender {
     {
         match master.call(rt, MasterCall::Issue(key)) {
             Ok(MasterAnswer::Issue(number)) => {
-                self.enter(rt, number);
-                if let Some(octets) = clear_of(rt, self.alloc, master, number) {
-                    for id in 1..=LAST_MEMBER {
-                        self.send(roster, id, octets.as_slice());
-                    }
-                }
+                self.announce(rt, roster, master, number);
                 Ok(number)
             }
             Ok(_) => unreachable!(),
@@ -147,7 +169,32 @@ impl MasterSender {
         }
     }
 
-    /// The CLR of a pending purge, if it is to be sent now.
+    /// Admits the joining member of an id, and sends it the CLR of its admission. Returns the
+    /// admission's number.
+    ///
+    /// Faults: those of `Master::admit`, and `NoMemory` where there is no memory for the call;
+    /// nothing is sent then. A CLR for which there is no memory, or that the system does not take,
+    /// is lost: the admission stands, and its CLR is sent again 20 milliseconds later.
+    pub fn admit<S: PurgeStore, R: Wait + Clock>(
+        &self,
+        rt: &R,
+        roster: &Roster,
+        master: &SharedMaster<S>,
+        id: u8,
+    ) -> Result<u32, MasterFault>
+        ensures { IfErr result (λ fault. fault ≢ faults.ShiftFull) }
+    {
+        match master.call(rt, MasterCall::Admit(id)) {
+            Ok(MasterAnswer::Admit(number)) => {
+                self.announce(rt, roster, master, number);
+                Ok(number)
+            }
+            Ok(_) => unreachable!(),
+            Err(fault) => Err(fault),
+        }
+    }
+
+    /// The CLR of a pending number, if it is to be sent now.
     fn clear_again<S: PurgeStore, R: Wait>(
         &self,
         rt: &R,
@@ -164,9 +211,9 @@ impl MasterSender {
         clear_of(rt, self.alloc, master, number)
     }
 
-    /// Sends the CLRs of these pending purges to these members, where they are to be sent now: of
-    /// the first 256, and of the other members of the last purge among them. A purge that was not
-    /// sent before waits while 256 CLRs of young purges are not acknowledged.
+    /// Sends the CLRs of these pending numbers to these members, where they are to be sent now: of
+    /// the first 256, and of the other members of the last number among them. A number that was not
+    /// sent before waits while 256 CLRs of young ones are not acknowledged.
     fn send_pairs<S: PurgeStore, R: Wait>(
         &self,
         rt: &R,
@@ -196,9 +243,32 @@ impl MasterSender {
         }
     }
 
-    /// Sends what is due again: the CLR of a pending purge to each member that has not acknowledged
-    /// it, by number and then by id. Nothing is sent where the master does not answer. Where
-    /// nothing can be due no call is made, so an idle master makes no entries.
+    /// Sends the CLRs of 64 pending purges that no member misses to each member that they need. A
+    /// member that had not acknowledged them was taken out of the roster, so nothing is due of
+    /// them; the next acknowledgement makes them done.
+    fn send_settled<S: PurgeStore, R: Wait>(
+        &self,
+        rt: &R,
+        roster: &Roster,
+        master: &SharedMaster<S>,
+    ) {
+        let Ok(numbers) = master.settled(rt) else {
+            return;
+        };
+        if numbers.is_empty() {
+            self.line.schedule.lock(rt).end_settled();
+        }
+        for number in numbers.as_slice().iter().take(MOST_SETTLED) {
+            if let Some(octets) = clear_of(rt, self.alloc, master, *number) {
+                self.send_to_all(roster, master.needed(rt, *number), octets.as_slice());
+            }
+        }
+    }
+
+    /// Sends what is due again: the CLR of a pending number to each member that it needs and that
+    /// has not acknowledged it, by number and then by id; and those of purges that no member
+    /// misses. Nothing is sent where the master does not answer. Where nothing can be due and no
+    /// such purge may be there no call is made, so an idle master makes no entries.
     pub(crate) fn send_due<S: PurgeStore, R: Wait>(
         &self,
         rt: &R,
@@ -208,14 +278,22 @@ impl MasterSender {
     ) {
         let last = self.line.schedule.lock(rt).last();
         self.line.schedule.lock(rt).begin(now);
-        if !master.may_be_due(rt) {
+        let takes_settled = self.line.schedule.lock(rt).takes_settled(now);
+        if !takes_settled && !master.may_be_due(rt) {
             self.line.schedule.lock(rt).keep(last, &[]);
             return;
         }
-        let Ok(MasterAnswer::Due(pairs)) = master.call(rt, MasterCall::Due) else {
-            return;
-        };
-        self.line.schedule.lock(rt).keep(last, pairs.as_slice());
-        self.send_pairs(rt, roster, master, pairs.as_slice(), now);
+        match master.call(rt, MasterCall::Due) {
+            Ok(MasterAnswer::Due(pairs)) => {
+                self.line.schedule.lock(rt).keep(last, pairs.as_slice());
+                self.send_pairs(rt, roster, master, pairs.as_slice(), now);
+                if takes_settled {
+                    self.send_settled(rt, roster, master);
+                }
+            }
+            // (a closed master counts no acknowledgement)
+            Err(MasterFault::Closed) => self.line.schedule.lock(rt).end_settled(),
+            _ => (),
+        }
     }
 }

@@ -8,7 +8,7 @@ use crate::weight::weight_of_all;
 use htcp_wire::Htcp;
 use node_seats::Places;
 use purge_master::{MasterBook, MasterEntry};
-use purge_rules::{MasterAnswer, MasterCall, MasterFault, PurgeStore, Purges};
+use purge_rules::{MasterAnswer, MasterCall, MasterFault, MemberSet, PurgeStore, Purges};
 use std::alloc::{AllocError, Global};
 use std::sync::{Mutex, MutexGuard, Wait};
 
@@ -55,16 +55,18 @@ impl<S: PurgeStore> SharedMaster<S> {
     }
 
     /// Whether a CLR may be due. It is `false` only where none is: the master is closed, or each
-    /// pending purge is acknowledged by every member. This is no call, and makes no entry.
+    /// pending number is acknowledged by every member that it needs. This is no call, and makes no
+    /// entry.
     ///
-    /// It is `true` for a book that was just shared, and after each purge that is issued and each
+    /// It is `true` for a book that was just shared, and after each number that is given and each
     /// response that is taken, until `Due` is answered with nothing.
     pub fn may_be_due<R: Wait>(&self, rt: &R) -> bool {
         self.locked_book.lock(rt).may_be_due()
     }
 
-    /// The CLR of the pending purge of a number, if there is one (RFC 2756, "CLR"). This is no
-    /// call, and makes no entry. `AllocError` comes where there is no memory for it.
+    /// The CLR of a number, if it is pending: that of its purge, or that of its admission (RFC
+    /// 2756, "CLR"). This is no call, and makes no entry. `AllocError` comes where there is no
+    /// memory for it.
     pub fn message<R: Wait>(&self, rt: &R, number: u32) -> Result<Option<Htcp>, AllocError>
         ensures clear { IfOk result (λ message. IfSome message (IsClearOf number)) }
         ensures fits { IfOk result (λ message. IfSome message Fits) }
@@ -72,9 +74,28 @@ impl<S: PurgeStore> SharedMaster<S> {
         self.locked_book.lock(rt).message(number)
     }
 
-    /// A copy of the pending purges, as they are at one moment, with the last number. A closed
-    /// master gives it too. This is no call, and makes no entry. `AllocError` comes where there is
-    /// no memory for it.
+    /// The members that a number needs and that have not acknowledged it; none where it is not
+    /// pending. This is no call, and makes no entry.
+    pub fn missing<R: Wait>(&self, rt: &R, number: u32) -> MemberSet {
+        self.locked_book.lock(rt).missing(number)
+    }
+
+    /// The members that a number needs, whether it is pending or not. This is no call, and makes no
+    /// entry.
+    pub(crate) fn needed<R: Wait>(&self, rt: &R, number: u32) -> MemberSet {
+        self.locked_book.lock(rt).needed(number)
+    }
+
+    /// The numbers of the pending purges that no member misses, ascending: each member that had not
+    /// acknowledged them was taken out of the roster. This is no call, and makes no entry.
+    /// `AllocError` comes where there is no memory for it.
+    pub(crate) fn settled<R: Wait>(&self, rt: &R) -> Result<Vec<u32>, AllocError> {
+        self.locked_book.lock(rt).settled()
+    }
+
+    /// A copy of the pending purges and the admissions, as they are at one moment, with the last
+    /// number. A closed master gives it too. This is no call, and makes no entry. `AllocError`
+    /// comes where there is no memory for it.
     pub fn purges<R: Wait>(&self, rt: &R) -> Result<Purges, AllocError> {
         self.locked_book.lock(rt).purges()
     }

@@ -1,5 +1,5 @@
 //! What the entries of a master's book weigh.
-ghost use Rattle.std.specs.Prelude.{◌≡◌, ◌+◌, ◌/◌, ◌≤◌};
+ghost use Rattle.std.specs.Prelude.{◌≡◌, ◌+◌, ◌/◌, ◌≤◌, if◌then◌else◌};
 ghost use Rattle.cluster_master.specs.Weight.{answer_octets as octets_of_answer};
 ghost use Rattle.cluster_master.specs.Weight.{call_octets as octets_of_call};
 ghost use Rattle.cluster_master.specs.Weight.{weight_of as weight_of_entry};
@@ -12,7 +12,7 @@ use url_key::LONGEST_KEY;
 /// How many octets weigh as much as an entry without a URL and without a list.
 const UNIT: u64 = 1_024;
 
-/// The longest list of what is due: 1,024 purges with 16 members each.
+/// The longest list of what is due: 1,024 numbers with 16 members each.
 const LONGEST_LIST: usize = 16_384;
 
 /// How many octets a number takes with its member.
@@ -48,6 +48,19 @@ pub(crate) fn entry_weight(call: u64, answer: u64) -> u64
     ensures { result ≡ 1 + (call + answer) / 1024 }
 {
     1 + (call + answer) / UNIT
+}
+
+/// What an entry with so many octets adds to the weight of a page; nothing, where there is none.
+pub(crate) fn added_weight(is_entered: bool, call: u64, answer: u64) -> u64
+    requires call { call ≤ 1024 }
+    requires answer { answer ≤ 131072 }
+    ensures { result ≡ if is_entered then 1 + (call + answer) / 1024 else 0 }
+{
+    if is_entered {
+        entry_weight(call, answer)
+    } else {
+        0
+    }
 }
 
 /// What an entry weighs.

@@ -1,4 +1,5 @@
 -- The files stand alone: read them in any order.
 mod Gathering
+mod Needs
 mod Numbers
 mod Sending

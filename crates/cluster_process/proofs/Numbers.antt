@@ -1,10 +1,14 @@
--- A member that is found to be ahead of a number is one of those that are. Where the members are judged well, none is.
-use Rattle.std.proofs.Common.{◌≡◌, ℕ, ◌<◌, Bool, true, false, cond, ◌||◌, Option, Some, None, List, [], ◌∷◌, map, find, Result, Ok, Err, OnOk, refl, sym, subst}
+-- A member that is found to be ahead of a number is one of those that are. Where the members are judged well, none is, and
+-- the files have what was acknowledged.
+use Rattle.std.proofs.Common.{◌≡◌, ℕ, ◌<◌, Bool, true, false, cond, ◌||◌, Some, None, List, [], ◌∷◌, map, find, Result, Ok, Err, OnOk, refl, subst}
 use Rattle.std.proofs.Common.{ap, ◌∙◌, arith}
 use Rattle.std.proofs.lemmas.Bool.Decides.{nat_tests}
 use Rattle.std.specs.Prelude.{nat_lt}
 use Rattle.std.specs.List.{list_any}
+use Rattle.purge_rules.specs.declared.nodes.Nodes.{Nodes}
+use Rattle.purge_rules.specs.Purges.{PurgeList}
 use Rattle.cluster_process.specs.Numbers.{has_ahead, IsJudged}
+use Rattle.cluster_process.specs.Stored.{AreStored, IsStored, IsInTime}
 use Rattle.cluster_process.specs.declared.fault.ClusterFault.{ClusterFault}
 
 module _ {X : Type 0} (seen : X → ℕ) (last : ℕ) where
@@ -33,6 +37,18 @@ module _ {X : Type 0} (seen : X → ℕ) (last : ℕ) where
   none_ahead (y ∷ ys) is = none_by y ys (nat_lt last (seen y)) refl is (none_ahead ys)
 
 -- where the members are judged well, none is ahead
-pub judged_well : (last : ℕ) (greatest : List ℕ) (told : Result (Unit {0}) ClusterFault) → IsJudged last greatest told → OnOk told (has_ahead last greatest ≡ false)
+pub judged_well : (last : ℕ) (greatest : List ℕ) (told : Result (Unit {0}) ClusterFault) → IsJudged last greatest told
+    → OnOk told (has_ahead last greatest ≡ false)
 judged_well last greatest (Ok done) judged = judged
 judged_well last greatest (Err fault) judged = tt
+
+-- where the files are judged well, none lacks what its member has acknowledged
+pub stored_well : (nodes : Nodes) (purges : PurgeList) (greatest : ℕ → ℕ) (told : Result (Unit {0}) ClusterFault) → IsStored nodes purges greatest told
+    → OnOk told (AreStored nodes purges greatest)
+stored_well nodes purges greatest (Ok done) stored = stored
+stored_well nodes purges greatest (Err fault) stored = tt
+
+-- where joining members are judged well, no file has a number too early
+pub in_time : (early : Bool) (told : Result (Unit {0}) ClusterFault) → IsInTime early told → OnOk told (early ≡ false)
+in_time early (Ok done) judged = judged
+in_time early (Err fault) judged = tt

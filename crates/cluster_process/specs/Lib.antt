@@ -1,4 +1,5 @@
 pub mod Names
 pub mod Folder
 pub mod Numbers
+pub mod Stored
 pub mod Kept

@@ -21,6 +21,7 @@ cluster_fault_name (cluster.Node id fault) = node.start_fault_name fault
 cluster_fault_name cluster.NoThread = codes "NoThread"
 cluster_fault_name cluster.System = codes "Io"
 cluster_fault_name (cluster.MasterBehind dir last id number) = codes "MasterBehind"
+cluster_fault_name (cluster.MemberBehind dir id number) = codes "MemberBehind"
 cluster_fault_name cluster.Input = codes "Io"
 cluster_fault_name cluster.Output = codes "Io"
 cluster_fault_name (cluster.Stop id fault) = node.stop_fault_name fault

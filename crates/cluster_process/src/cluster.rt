@@ -181,7 +181,7 @@ fn answer_watched<
     // (what was sent to members before they ran is lost)
     master.sender.send_afresh(&rt, master.last(&rt));
     let watch = Watch::start(rt, alloc, running)?;
-    let ended = answer(&rt, alloc, common, running, master, input, output);
+    let ended = answer(&rt, alloc, common, running, master, &watch, input, output);
     begin_stop(&rt, running);
     watch.stop(&rt);
     ended
@@ -294,12 +294,13 @@ fn stop_nodes<R: Threads + Wait>(rt: &R, running: Vec<Running>) -> Result<(), Cl
 }
 
 /// Answers the lines of the input, and returns what is kept of the run.
-fn answer<I: Read + Drop, O: Write, S: PurgeStore, R: Wait + Clock + RandomSource + Eprint + Net>(
+fn answer<I: Read + Drop, O: Write, S: PurgeStore, R: Wait + Clock + RandomSource + Net>(
     rt: &R,
     alloc: Global,
     common: &Common<'_>,
     nodes: &[Running],
     running: &MasterThread<S>,
+    watch: &Watch,
     input: I,
     output: &mut O,
 ) -> Result<Option<Kept>, ClusterFault>
@@ -323,8 +324,7 @@ fn answer<I: Read + Drop, O: Write, S: PurgeStore, R: Wait + Clock + RandomSourc
     match ended {
         Ended::Answered => Ok(judge.into_kept(rt)),
         Ended::NoLine => {
-            // (a standard error that takes nothing ends nothing)
-            let _ = eprintln!(rt; "the input was at its end from the start: the cluster stops");
+            watch.say_no_line();
             Ok(judge.into_kept(rt))
         }
         Ended::NoMemory => Err(ClusterFault::NoMemory),

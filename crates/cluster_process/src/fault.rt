@@ -15,7 +15,8 @@ use thiserror::Error;
 #[derive(Debug, Drop, Error)]
 pub enum ClusterFault {
     /// A file in the folder is that of no member of the roster; or the folder has a master's file,
-    /// and lacks that of a member.
+    /// and lacks that of a founding member; or a joining member's file has a number, and the member
+    /// was not admitted.
     #[error("the files in {dir} are those of other members than the roster's")]
     OtherRoster {
         /// The folder.
@@ -79,7 +80,7 @@ pub enum ClusterFault {
     System,
     /// The folder's master has not given a number that a member has stored: the master's file is
     /// missing or too old. The next purges would have numbers that were given before.
-    #[error("{dir}/master.db is missing or too old: its last purge is {last}, and node {id} has stored purge {number}; put back the newest one, or begin with an empty folder")]
+    #[error("{dir}/master.db is missing or too old: its last number is {last}, and node {id} has stored number {number}; put back the newest one, or begin with an empty folder")]
     MasterBehind {
         /// The folder.
         dir: String,
@@ -88,6 +89,17 @@ pub enum ClusterFault {
         /// The id of the member.
         id: u8,
         /// The greatest number that the member has stored.
+        number: u32,
+    },
+    /// The file of a member lacks a number that the member has acknowledged: it is missing, empty
+    /// or too old, or a part of it is lost. The member would have forgotten purges.
+    #[error("{dir}/node-{id}.db is missing or too old: it lacks number {number}, which node {id} has acknowledged; put back the newest one, or take node {id} out of the roster and its files out of the folder")]
+    MemberBehind {
+        /// The folder.
+        dir: String,
+        /// The id of the member.
+        id: u8,
+        /// The number of a purge, or of the member's admission.
         number: u32,
     },
     /// The input could not be read, before its end. All lines before that were answered.
@@ -123,6 +135,7 @@ impl ClusterFault {
             | ClusterFault::Output => "Io",
             ClusterFault::OtherRoster { .. } => "OtherRoster",
             ClusterFault::MasterBehind { .. } => "MasterBehind",
+            ClusterFault::MemberBehind { .. } => "MemberBehind",
             ClusterFault::Floors { fault, .. } => fault.name(),
             ClusterFault::Purges { fault, .. } => fault.name(),
             ClusterFault::MasterOpen(fault) => fault.name(),

@@ -25,7 +25,13 @@ impl FloorStore for NodeStore {
 
     ghost failed = { λ it. ⟦<SqliteFloors<FileStore<File>> as FloorStore>⟧.failed it.floors };
 
-    ghost has_cause = { λ old new key number. ⟦<SqliteFloors<FileStore<File>> as FloorStore>⟧.has_cause old.floors new.floors key number };
+    ghost has_cause = { λ old new key number.
+        ⟦<SqliteFloors<FileStore<File>> as FloorStore>⟧.has_cause
+        old.floors new.floors key number };
+
+    ghost has_base_cause = { λ old new number.
+        ⟦<SqliteFloors<FileStore<File>> as FloorStore>⟧.has_base_cause
+        old.floors new.floors number };
 
     fn load(&mut self, alloc: Global) -> Result<Floors, FloorFault> {
         self.floors.load(alloc)
@@ -33,6 +39,10 @@ impl FloorStore for NodeStore {
 
     fn raise(&mut self, alloc: Global, key: &Key, number: u32) -> Result<(), FloorFault> {
         self.floors.raise(alloc, key, number)
+    }
+
+    fn raise_base(&mut self, number: u32) -> Result<(), FloorFault> {
+        self.floors.raise_base(number)
     }
 
     fn failures(&self) -> u64 {
@@ -63,6 +73,10 @@ impl PurgeStore for MasterStore {
 
     fn add(&mut self, alloc: Global, number: u32, key: &Key) -> Result<(), PurgeFault> {
         self.purges.add(alloc, number, key)
+    }
+
+    fn admit(&mut self, alloc: Global, number: u32, member: u8) -> Result<(), PurgeFault> {
+        self.purges.admit(alloc, number, member)
     }
 
     fn mark(&mut self, alloc: Global, number: u32, member: u8) -> Result<(), PurgeFault> {

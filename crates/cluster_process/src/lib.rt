@@ -10,11 +10,12 @@
 //!
 //! Order of reading: `src/cluster.rt` (start, answer, stop); `src/stores.rt`, `src/node_floors.rt`
 //! and `src/files.rt` (the files), `specs/Folder.antt` (which of them there may be),
-//! `specs/Numbers.antt` (when a master is behind);
+//! `specs/Numbers.antt` (when a master is behind), `src/stored.rt` and `specs/Stored.antt` (when a
+//! member is);
 //! `src/master_thread.rt`; `src/watch.rt` (who says that a member has closed); `src/judge.rt`,
 //! `src/kept.rt` and `specs/Kept.antt` (what is gathered, and how much of it is kept);
 //! `src/fault.rt` and `specs/Names.antt` (which file, port or member is at fault);
-//! `proofs/Gathering.antt`, `proofs/Sending.antt`, `proofs/Numbers.antt`.
+//! `proofs/Gathering.antt`, `proofs/Sending.antt`, `proofs/Numbers.antt`, `proofs/Needs.antt`.
 //!
 //! The crate opens files and sockets, starts threads, reads the clock, and draws random hash keys.
 //!
@@ -30,6 +31,7 @@ mod judge;
 mod kept;
 mod master_thread;
 mod node_floors;
+mod stored;
 mod stores;
 mod watch;
 

@@ -1,17 +1,20 @@
 //! The files of a cluster, in one folder: `node-N.db` for each member N, and `master.db`.
-ghost use Rattle.std.specs.Prelude.{◌≡◌, ◌==◌, ◌≤◌, ℕ, false, find, insert, length, map, nat_lt};
-ghost use Rattle.std.specs.Prelude.{option_map, IfOk, OnErr, OnOk};
+ghost use Rattle.std.specs.Prelude.{◌≡◌, ◌==◌, ◌≤◌, ℕ, false, find, insert, length, map};
+ghost use Rattle.std.specs.Prelude.{nat_lt, option_map, unwrap_or, IfOk, OnErr, OnOk};
 ghost use Rattle.std.specs.List.{list_any};
+ghost use Rattle.purge_rules.specs.Needed.{nodes_of};
 ghost use Rattle.cluster_process.specs.Folder.{file_fits};
 ghost use Rattle.cluster_process.specs.Numbers.{has_ahead, IsJudged};
+ghost use Rattle.cluster_process.specs.Stored.{AreStored, is_early};
 
 use crate::fault::ClusterFault;
 use crate::files::{MasterStore, NodeStore};
 use crate::node_floors::NodeFloors;
+use crate::stored::{judge_files, judge_joining};
 use floor_rules::{FloorFault, FloorStore};
 use purge_numbers::SqliteFloors;
 use purge_records::SqlitePurges;
-use purge_rules::{PurgeFault, PurgeStore};
+use purge_rules::{PurgeFault, PurgeStore, Purges};
 use roster::{LAST_MEMBER, Roster};
 use sqlite::{Connection, Error, ErrorCode, File, FileStore};
 use std::alloc::{AllocError, Global};
@@ -42,12 +45,16 @@ enum Lacking {
 /// Faults, the first that comes:
 ///
 /// - `OtherRoster`, before any file is opened: a file is that of no member; or the folder has a
-///   master's file, and lacks that of a member. (Without a master's file a first start may have
-///   been cut off.)
+///   master's file, and lacks that of a founding member. (Without a master's file a first start may
+///   have been cut off.)
 /// - For the first of the files that hold something, or have only left their log, the members' by
 ///   ascending id and then the master's, `File` or `NoMemory`, or the fault of its tables.
+/// - `MemberBehind`: a member has acknowledged a number, as the master has stored, that is greater
+///   than those in its file; an empty or missing file has none.
 /// - `MasterBehind`: a member has stored a number that is greater than the last one of the master,
 ///   0 where it has no file.
+/// - `OtherRoster`: the file of a joining member has a number, and the member was not admitted. It is
+///   of another cluster, or the member was a founding one.
 /// - The same faults as above for the first of the other files, which are made only now.
 ///
 /// After a fault no file is open. Before the last kind no file was made, and those that are there
@@ -66,12 +73,15 @@ pub fn open_stores(
     let mut nodes = Vec::with_capacity(alloc, roster.members().len())?;
     open_nodes(files, alloc, roster, dir, Lacking::Left, &mut nodes)?;
     match filled_master(files, alloc, dir) {
-        Ok(Some((purges, last))) => match complete(files, alloc, roster, dir, last, &mut nodes) {
-            Ok(()) => Ok(Stores { nodes, purges }),
-            Err(fault) => Err(fault),
-        },
+        Ok(Some((purges, given))) => {
+            match complete(files, alloc, roster, dir, &given, &mut nodes) {
+                Ok(()) => Ok(Stores { nodes, purges }),
+                Err(fault) => Err(fault),
+            }
+        }
         Ok(None) => {
-            complete(files, alloc, roster, dir, 0, &mut nodes)?;
+            let given = Purges::new(alloc);
+            complete(files, alloc, roster, dir, &given, &mut nodes)?;
             match open_master(files, alloc, dir) {
                 Ok(purges) => Ok(Stores { nodes, purges }),
                 Err(fault) => Err(fault),
@@ -81,39 +91,53 @@ pub fn open_stores(
     }
 }
 
-/// Opens the master's file, with the last number that it has given; none, where it is not there or
+/// Opens the master's file, with the numbers that it has given; none, where it is not there or
 /// empty.
 fn filled_master(
     files: &HostRuntime,
     alloc: Global,
     dir: &str,
-) -> Result<Option<(MasterStore, u32)>, ClusterFault> {
+) -> Result<Option<(MasterStore, Purges)>, ClusterFault> {
     if !is_filled(files, alloc, master_path(alloc, dir)?)? {
         return Ok(None);
     }
     match open_master(files, alloc, dir) {
-        Ok(mut purges) => match last_of(alloc, &mut purges) {
-            Ok(last) => Ok(Some((purges, last))),
+        Ok(mut purges) => match given_by(alloc, &mut purges) {
+            Ok(given) => Ok(Some((purges, given))),
             Err(fault) => Err(unread(master_path(alloc, dir)?, fault)),
         },
         Err(fault) => Err(fault),
     }
 }
 
-/// Judges the members' files that are open by the last number of the master. Only then makes the
+/// Judges the members' files that are open by what the master has given. Only then makes the
 /// others.
-#[tactic(auto, using(crate::proofs::Numbers::judged_well))]
+#[tactic(auto, using(crate::proofs::Numbers::judged_well, crate::proofs::Numbers::stored_well, crate::proofs::Numbers::in_time))]
 fn complete(
     files: &HostRuntime,
     alloc: Global,
     roster: &Roster,
     dir: &str,
-    last: u32,
+    given: &Purges,
     nodes: &mut Vec<NodeFloors<NodeStore>>,
 ) -> Result<(), ClusterFault>
-    ensures { OnOk result (has_ahead last (map (λ n. n.seen) nodes.new.items) ≡ false) }
+    ensures numbers { OnOk result (has_ahead given.now.last (map (λ n. n.seen) nodes.new.items)
+        ≡ false) }
+    ensures files { OnOk result (AreStored (nodes_of roster.now) given.now
+        (λ id. unwrap_or (option_map (λ n. n.seen) (find (λ n. n.id == id) nodes.old.items)) 0)) }
+    ensures early { OnOk result (list_any
+        (λ n. is_early (nodes_of roster.now) given.now n.id n.seen) nodes.old.items ≡ false) }
 {
+    let last = given.last();
+    let named = String::from_str(alloc, dir)?;
+    judge_files(named, roster, given, nodes.as_slice())?;
     judge_numbers(String::from_str(alloc, dir)?, last, nodes.as_slice())?;
+    judge_joining(
+        String::from_str(alloc, dir)?,
+        roster,
+        given,
+        nodes.as_slice(),
+    )?;
     open_nodes(files, alloc, roster, dir, Lacking::Made, nodes)?;
     // (so are those that were made)
     judge_numbers(String::from_str(alloc, dir)?, last, nodes.as_slice())
@@ -127,14 +151,11 @@ fn unread(path: String, fault: PurgeFault) -> ClusterFault {
     }
 }
 
-/// The last number that a master has given.
-fn last_of<P: PurgeStore>(alloc: Global, purges: &mut P) -> Result<u32, PurgeFault>
-    ensures { IfOk result (λ last. P.is_honest purges.new → last ≡ (P.content purges.new).last) }
+/// What a master has given.
+fn given_by<P: PurgeStore>(alloc: Global, purges: &mut P) -> Result<Purges, PurgeFault>
+    ensures { IfOk result (λ given. P.is_honest purges.new → given ≡ P.content purges.new) }
 {
-    match purges.load(alloc) {
-        Ok(purges) => Ok(purges.last()),
-        Err(fault) => Err(fault),
-    }
+    purges.load(alloc)
 }
 
 /// The first member that has stored a number greater than this one.
@@ -166,14 +187,14 @@ fn judge_numbers<F: FloorStore>(
 }
 
 /// Whether a folder may have, or lack, the file of a cache that may be a member: it has that of no
-/// other cache, and lacks that of a member only where it has no master's file.
-fn may_be(has_master: bool, is_member: bool, has_file: bool) -> bool
-    ensures { result ≡ file_fits has_master is_member has_file }
+/// other cache, and lacks that of a founding member only where it has no master's file.
+fn may_be(has_master: bool, is_member: bool, is_founding: bool, has_file: bool) -> bool
+    ensures { result ≡ file_fits has_master is_member is_founding has_file }
 {
     if has_file {
         is_member
     } else {
-        !(has_master && is_member)
+        !(has_master && is_founding)
     }
 }
 
@@ -187,7 +208,9 @@ fn is_of_roster(
     let has_master = is_there(files, master_path(alloc, dir)?)?;
     for id in 1..=LAST_MEMBER {
         let has_file = is_there(files, node_path(alloc, dir, id)?)?;
-        if !may_be(has_master, roster.is_member(id), has_file) {
+        let is_member = roster.is_member(id);
+        let is_founding = is_member && roster.is_founding(id);
+        if !may_be(has_master, is_member, is_founding, has_file) {
             return Ok(false);
         }
     }

@@ -1,4 +1,5 @@
-//! The thread that says on standard error which members have closed.
+//! The thread that writes standard error: which members have closed, which lack descriptors, and that
+//! the input was at its end from the start.
 use crate::cluster::Running;
 use crate::fault::ClusterFault;
 use crate::master_thread::flag;
@@ -39,6 +40,8 @@ struct Watched {
 #[derive(Drop)]
 struct Watching {
     members: Vec<Watched>,
+    /// Whether the input was at its end from the start, and that was not said yet.
+    has_no_line: Arc<AtomicBool, Global>,
     is_stopped: Arc<AtomicBool, Global>,
     is_over: Arc<AtomicBool, Global>,
 }
@@ -46,6 +49,7 @@ struct Watching {
 /// A thread that watches the members.
 #[derive(Drop)]
 pub(crate) struct Watch {
+    has_no_line: Arc<AtomicBool, Global>,
     is_stopped: Arc<AtomicBool, Global>,
     /// Whether the thread writes no more.
     is_over: Arc<AtomicBool, Global>,
@@ -90,6 +94,14 @@ impl Watched {
 }
 
 impl Watching {
+    /// Says that the input was at its end from the start, once.
+    fn tell_no_line<R: Eprint>(&self, rt: &R) {
+        if self.has_no_line.swap(false, Ordering::SeqCst) {
+            // (a standard error that takes nothing ends nothing)
+            let _ = eprintln!(rt; "the input was at its end from the start: the cluster stops");
+        }
+    }
+
     /// Looks at the members again and again until it is told to stop. It waits while standard error
     /// takes nothing.
     fn run<R: Wait + Clock + Eprint>(mut self, rt: &R) {
@@ -99,6 +111,7 @@ impl Watching {
                 member.tell(rt, is_last);
                 member.tell_want(rt);
             }
+            self.tell_no_line(rt);
             if is_last {
                 self.is_over.store(true, Ordering::SeqCst);
                 return;
@@ -134,20 +147,27 @@ impl Watch {
         alloc: Global,
         running: &[Running],
     ) -> Result<Watch, ClusterFault> {
-        let (is_stopped, is_over) = (flag(alloc)?, flag(alloc)?);
+        let (is_stopped, is_over, has_no_line) = (flag(alloc)?, flag(alloc)?, flag(alloc)?);
         let watching = Watching {
             members: members_of(alloc, running)?,
+            has_no_line: Arc::try_clone(&has_no_line)?,
             is_stopped: Arc::try_clone(&is_stopped)?,
             is_over: Arc::try_clone(&is_over)?,
         };
         match thread::spawn(&rt, move || watching.run(&rt)) {
             Ok(thread) => Ok(Watch {
+                has_no_line,
                 is_stopped,
                 is_over,
                 thread,
             }),
             Err(_) => Err(ClusterFault::NoThread),
         }
+    }
+
+    /// Has the thread say that the input was at its end from the start.
+    pub(crate) fn say_no_line(&self) {
+        self.has_no_line.store(true, Ordering::SeqCst);
     }
 
     /// Whether the thread writes no more within a second.

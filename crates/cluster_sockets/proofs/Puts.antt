@@ -1,6 +1,6 @@
 -- A pass that puts nothing, one job, or first some jobs and then others, has only put jobs that came over a socket. So
 -- each loop of a poll keeps HasPut, and so does the poll.
-use Rattle.std.proofs.Common.{Result, Ok, Err, MatchResult, ◌≡◌, List, [], ◌∷◌, ◌++◌, map, sym, refl, ap, ◌∙◌, append_assoc, append-nil, subst}
+use Rattle.std.proofs.Common.{Result, Ok, Err, MatchResult, ◌≡◌, List, [], ◌∷◌, ◌++◌, map, sym, ap, ◌∙◌, append_assoc, append-nil}
 use Rattle.std.proofs.lemmas.List.{map-append}
 use Rattle.std.proofs.lemmas.List.Elements.{All-nil, All-cons, All-append}
 use Rattle.cluster_jobs.specs.declared.job.Job.{Job}

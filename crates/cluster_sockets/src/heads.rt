@@ -6,6 +6,7 @@ ghost use Rattle.cluster_sockets.specs.Polls.{HasCome};
 use cluster_jobs::Job;
 use cluster_streams::PATIENCE;
 use http_intake::{HeadEnd, LONGEST_HEAD};
+use http_reading::lower_version;
 use mio::net::TcpStream;
 use mio::{Interest, Registry, Token};
 use std::alloc::{AllocError, Global};
@@ -129,7 +130,8 @@ impl Head {
         self.stream
     }
 
-    /// Makes it a job for a worker.
+    /// Makes it a job for a worker, which reads a request of HTTP/1.2 to HTTP/1.9 as one of
+    /// HTTP/1.1 (RFC 9110, section 6.2).
     pub(crate) fn into_job(self) -> Job
         ensures { HasCome (sight_of result) }
     {
@@ -137,10 +139,11 @@ impl Head {
             number,
             ip: _,
             stream,
-            octets,
+            mut octets,
             end: _,
             since: _,
         } = self;
+        lower_version(octets.as_mut_slice());
         Job::Stream {
             number,
             stream,

@@ -30,7 +30,8 @@ impl<C, A> Model for WaitingClients<C, A> {
 
     ghost view = { λ w. record { clients = w.clients.entries; answers = w.answers.entries } };
 
-    ghost invariant = { λ w. (length w.clients.entries ≤ 1056) × (length w.answers.entries ≤ 1056) };
+    ghost invariant = { λ w. (length w.clients.entries ≤ 1056)
+        × (length w.answers.entries ≤ 1056) };
 }
 
 impl<C: Drop, A: Drop> WaitingClients<C, A> {

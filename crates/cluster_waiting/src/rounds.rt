@@ -37,7 +37,8 @@ impl Model for Rounds {
 
     ghost view = { λ r. record { rounds = r.rounds.items; latest = r.latest } };
 
-    ghost invariant = { λ r. Ascend r.rounds.items × All (λ w. w.until ≤ r.latest) r.rounds.items × (length r.rounds.items ≤ 65536) };
+    ghost invariant = { λ r. Ascend r.rounds.items × All (λ w. w.until ≤ r.latest) r.rounds.items
+        × (length r.rounds.items ≤ 65536) };
 }
 
 impl Rounds {

@@ -62,6 +62,7 @@ shadowed : {A : Type 0} (b : Bool) (x y z : A) → cond b x z ≡ cond b x (cond
 shadowed true x y z = refl
 shadowed false x y z = refl
 
+-- by induction over the entries: the new one stands before the first whose text is greater, or in place of its own
 found_put : (entries : List (List ℕ × ℕ)) (k q : List ℕ) (n : ℕ) → find (slice_cmp nat_cmp) q (put (slice_cmp nat_cmp) k n entries) ≡ cond (same_url q k)
     (Some n) (find (slice_cmp nat_cmp) q entries)
 found_put [] k q n = refl

@@ -1,5 +1,5 @@
--- Floors: rows of purge numbers by key, and a base that the floor of every key has at least. What a raise makes of
--- them.
+-- Floors: rows of purge numbers by key, and a base that the floor of every key has at least. What a raise of a key,
+-- and of the base, makes of them.
 use Rattle.std.specs.Prelude.{ℕ, max, nat_lt, nat_le, List, [], ◌∷◌, Option, Some, None, unwrap_or, if◌then◌else◌}
 use Rattle.std.specs.Ordering.{nat_cmp}
 use Rattle.std.specs.Cmp.Lexicographic.{slice_cmp}
@@ -50,6 +50,10 @@ with_row floors key number = record floors { rows = insert floors.rows key numbe
 -- no rows, and this base
 abbrev pub base_only : ℕ → FloorTable
 base_only number = record { rows = empty; base = number }
+
+-- the base is no less than this number then; rows stay [Floor 5]
+abbrev pub with_base : FloorTable → ℕ → FloorTable
+with_base floors number = record floors { base = max floors.base number }
 
 -- a raise of a key without a row: a number up to the base changes nothing; else the key gets a row; where there are
 -- 65,536 rows already, they are dropped, and the base is the greatest number of all [Floor 3]

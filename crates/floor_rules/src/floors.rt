@@ -1,9 +1,9 @@
 //! The floors of all keys.
-ghost use Rattle.std.specs.Prelude.{◌≡◌, ◌≢◌, ◌↔◌, ◌≤◌, ◌<◌, false, None, max, IsTrue, IfOk, OnOk};
+ghost use Rattle.std.specs.Prelude.{◌≡◌, ◌≢◌, ◌↔◌, ◌≤◌, ◌<◌, false, None, IsTrue, IfOk, OnOk};
 ghost use Rattle.std.specs.Prelude.{OnErr};
 ghost use Rattle.std.specs.FinMap.{get, len};
 ghost use Rattle.floor_rules.specs.Floors.{base_only, floor, new_base, no_floors, raised, row};
-ghost use Rattle.floor_rules.specs.Floors.{seen, with_row};
+ghost use Rattle.floor_rules.specs.Floors.{seen, with_base, with_row};
 ghost use Rattle.floor_rules.specs.Raising.{LowersNone, after};
 
 use crate::rows::Rows;
@@ -147,9 +147,9 @@ impl Floors {
         Ok(true)
     }
 
-    /// Raises the base to this number at least. Rows stay.
+    /// Raises the base to this number at least. Rows stay. Takes no memory.
     pub fn raise_base(&mut self, number: u32)
-        ensures { self.new ≡ record self.old { base = max self.old.base number } }
+        ensures { self.new ≡ with_base self.old number }
     {
         self.base = self.base.max(number);
     }

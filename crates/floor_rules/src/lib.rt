@@ -5,15 +5,16 @@
 //!
 //! - `Floors`: the rows of keys and the base in memory, for look-ups.
 //! - `FloorStore`: the contract of a store whose floors outlive a restart: `load`, `raise`,
-//!   `failures`. A node knows its store by this contract alone, so no proof of a node reads a
-//!   database.
+//!   `raise_base`, `failures`. A node knows its store by this contract alone, so no proof of a node
+//!   reads a database.
 //! - `MemoryFloors`: a store in memory, for the world and for tests. The store in a file is
 //!   `purge_numbers`.
 //! - `FloorFault`: why a call on a store fails.
 //!
 //! Read in this order:
 //!
-//! 1. `specs/Floors.antt`: the table, a raise, and what becomes of 65,536 rows.
+//! 1. `specs/Floors.antt`: the table, a raise of a key or of the base, and what becomes of 65,536
+//!    rows.
 //! 2. `src/store.rt`: the contract, in the words of `specs/Store.antt`.
 //! 3. `src/floors.rt`: the table as code, over the rows of `src/rows.rt`. `src/memory.rt`: the
 //!    store in memory.

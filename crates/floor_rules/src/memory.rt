@@ -52,12 +52,19 @@ impl FloorStore for MemoryFloors {
 
     ghost has_cause = { λ _ _ _ _. ⊥ };
 
+    ghost has_base_cause = { λ _ _ _. ⊥ };
+
     fn load(&mut self, _alloc: Global) -> Result<Floors, FloorFault> {
         Ok(self.floors.copy()?)
     }
 
     fn raise(&mut self, alloc: Global, key: &Key, number: u32) -> Result<(), FloorFault> {
         self.floors.raise(alloc, key, number)?;
+        Ok(())
+    }
+
+    fn raise_base(&mut self, number: u32) -> Result<(), FloorFault> {
+        self.floors.raise_base(number);
         Ok(())
     }
 

@@ -29,9 +29,11 @@ impl Model for Rows {
 
     ghost coded = { code (coded_list coded_ℕ) coded_ℕ };
 
-    ghost view = { λ rows. from_entries (map (λ entry. (entry.0.items, entry.1)) rows.rows.entries) };
+    ghost view = { λ rows. from_entries
+        (map (λ entry. (entry.0.items, entry.1)) rows.rows.entries) };
 
-    ghost invariant = { λ rows. rows.greatest ≡ greatest_of (from_entries (map (λ entry. (entry.0.items, entry.1)) rows.rows.entries)) };
+    ghost invariant = { λ rows. rows.greatest
+        ≡ greatest_of (from_entries (map (λ entry. (entry.0.items, entry.1)) rows.rows.entries)) };
 }
 
 impl Rows {

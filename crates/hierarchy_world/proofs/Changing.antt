@@ -2,7 +2,7 @@
 -- is stored are as before, and the world changes as the model says.
 use Rattle.std.proofs.Common.{◌≡◌, ℕ, zero, suc, ◌<◌, List, [], ◌∷◌, length, map, set, insert, remove, slice_get, Some, refl, sym, ◌∙◌, ap, subst, arith}
 use Rattle.std.specs.List.{AllByRecursion}
-use Rattle.purge_rules.specs.Members.{members_of}
+use Rattle.purge_rules.specs.Needed.{nodes_of}
 use Rattle.purge_rules.specs.Purges.{PurgeList}
 use Rattle.world_rules.specs.World.{MemberState, Datagram, PeerAsk, PeerAnswer, Waiting, World, node_at, with_node}
 use Rattle.world_rules.proofs.MemberStates.{all_got}
@@ -58,7 +58,7 @@ module _ (old new : Parts) (before n : MemberNode) (id place : ℕ) (sound : IsS
         { roster = same_roster ∙ (was_member_node old before id place sound is_place at).roster; stored = stored }));
     ids = ap (map (λ m. m.id)) nodes_are ∙ ids_put old.nodes.items place n now_place ∙ sound.ids ∙ ap (λ r. map (λ m. m.cache.id) r.members) (sym roster_same);
     master = record {
-      members = ap (λ m. m.members) master_same ∙ sound.master.members ∙ ap members_of (sym roster_same);
+      nodes = ap (λ m. m.nodes) master_same ∙ sound.master.nodes ∙ ap nodes_of (sym roster_same);
       is_open = ap (λ m. m.state.closed) master_same ∙ sound.master.is_open;
     };
   }

@@ -38,6 +38,8 @@ no_memory_told (here.Replied node (Ok reply)) had is = cc
 no_memory_told (here.Replied node (Err f)) had is = had.0 (cc)
 no_memory_told (here.Issued number) had is = cc
 no_memory_told (here.NotIssued f) had is = cc
+no_memory_told (here.Admitted number) had is = cc
+no_memory_told (here.NotAdmitted f) had is = cc
 no_memory_told (here.Reported number status) had is = cc
 no_memory_told here.Nothing had is = cc
 
@@ -47,6 +49,8 @@ no_store_told (here.Replied node (Ok reply)) had is = cc
 no_store_told (here.Replied node (Err f)) had is = had.1 (cc)
 no_store_told (here.Issued number) had is = cc
 no_store_told (here.NotIssued f) had is = cc
+no_store_told (here.Admitted number) had is = cc
+no_store_told (here.NotAdmitted f) had is = cc
 no_store_told (here.Reported number status) had is = cc
 no_store_told here.Nothing had is = cc
 
@@ -77,7 +81,11 @@ consequence_made old mid event seen outcome place taken key told left small is =
         taken.roster,
         place_after old.place place left small next ∙ ap (λ (n : ℕ). n + 1) (sym same),
         seen_of seen,
-        (key, subst (λ (n : ℕ). Takes old.roster n (world_of old) (consequence old.roster (world_of old) event) (seen_of seen) (world_of mid)) (sym same) taken.takes),
+        (
+          key,
+          subst (λ (n : ℕ). Takes old.roster n (world_of old) (consequence old.roster (world_of old) event) (seen_of seen) (world_of mid))
+              (sym same) taken.takes,
+        ),
         told,
       ),
     )

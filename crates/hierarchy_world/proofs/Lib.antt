@@ -1,6 +1,6 @@
 -- To read: Runs (why whole runs are safe) and Happening (one event) first. Then the events by kind:
 -- Taking (a node's step and what it sends; over Places, Steps, Changing, Serving), Reaching (what
--- arrives), Restarting (faults and restarts), Numbers (CLRs to all members), Starting (a new world).
+-- arrives), Restarting (faults and restarts), Numbers (lists that a loop makes), Starting (a new world).
 -- MemberNodes, Writing and Outcomes are lemmas; Refusing and Applying are about faults.
 pub mod Places
 pub mod Steps

@@ -11,6 +11,10 @@ use Rattle.values_tables.specs.Ranges.{is_foreign_id}
 use Rattle.values_plain.specs.declared.address.Address.{Address}
 use Rattle.values_plain.specs.declared.address.Udp.{Udp}
 use Rattle.values_tables.specs.declared.plain.Tables.{Tables}
+use Rattle.purge_rules.specs.declared.nodes.Nodes.{Nodes}
+use Rattle.purge_rules.specs.declared.calls.MasterCall.TheVariants as call
+use Rattle.purge_rules.specs.declared.calls.MasterAnswer.TheVariants as answer
+use Rattle.purge_rules.specs.Calls.{MasterState, Called, acknowledged, called, closed_call, open_call}
 use Rattle.roster.specs.Lookups.{is_member, is_master, member_at}
 use Rattle.node_rules.specs.declared.message.Message.{Message}
 use Rattle.node_rules.specs.declared.message.Message.TheVariants as message
@@ -36,7 +40,8 @@ use Rattle.hierarchy_world.specs.Posted.{heard_by}
 use Rattle.hierarchy_world.proofs.Changing.{was_state}
 
 -- a consequence at an id that is a member's
-pub member_taken : (old new : Parts) (id : ℕ) (t : Consequence) (result : Result SeenHere WorldFault) → is_member old.roster id ≡ true → IsTaken old t result new →
+pub member_taken : (old new : Parts) (id : ℕ) (t : Consequence) (result : Result SeenHere WorldFault) → is_member old.roster id ≡ true
+    → IsTaken old t result new →
     IsTaken old (at_member old.roster id t) result new
 member_taken old new id t result member taken = subst (λ (b : Bool). IsTaken old (cond b t (Refused fault.NoSuchPacket)) result new) (sym member) taken
 
@@ -251,3 +256,12 @@ mail_comes t w o d sender receiver m said by id octets is view same master by_is
     ∙ to_member t w (Some (mail sender receiver m)) (mail sender receiver m) (Some id) refl master
     (at ∙ ap (λ (u : Udp). member_at t receiver u) by_m)
     ∙ ap (λ (x : Option Message). octets_reach w sender id x) (sym (ap (λ (u : Udp). decoded_by u octets) by_m ∙ spelled))
+
+-- the purges that an acknowledgement leaves, if the master is open
+pub acknowledged_left : (nodes : Nodes) (s next : MasterState) (id number code : ℕ) (finished : Option ℕ) → s.closed ≡ false →
+    called nodes s (call.Acknowledge id number code) ≡ record { state = next; outcome = Ok (answer.Acknowledge finished) } →
+    next.purges ≡ (acknowledged nodes s.purges id number code).purges
+acknowledged_left nodes s next id number code finished is_open is =
+    let open_now : called nodes s (call.Acknowledge id number code) ≡ open_call nodes s.purges (call.Acknowledge id number code) =
+    ap (λ (b : Bool). cond b (closed_call nodes s (call.Acknowledge id number code)) (open_call nodes s.purges (call.Acknowledge id number code))) is_open in
+    ap (λ (c : Called). c.state.purges) (sym is ∙ open_now)

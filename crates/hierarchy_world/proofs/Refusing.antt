@@ -5,7 +5,8 @@ use Rattle.htcp_wire.specs.declared.message.Content.{Content}
 use Rattle.htcp_wire.specs.declared.message.Content.TheVariants as content
 use Rattle.http_messages.specs.Answer.{AnswerText}
 use Rattle.purge_rules.specs.declared.fault.MasterFault.{MasterFault}
-use Rattle.purge_rules.specs.Calls.{issue_fault}
+use Rattle.purge_rules.specs.Needed.{nodes_of}
+use Rattle.purge_rules.specs.Calls.{issue_fault, admit_fault}
 use Rattle.values_tables.specs.Ranges.{is_foreign_id}
 use Rattle.values_plain.specs.declared.address.Address.{Address}
 use Rattle.values_plain.specs.declared.address.Udp.TheVariants as udp
@@ -26,7 +27,7 @@ use Rattle.node_rules.specs.Spelled.{decoded_by}
 use Rattle.world_rules.specs.World.{World, Datagram, PeerAsk, PeerAnswer, item}
 use Rattle.world_rules.specs.Consequence.{Consequence, NodeSteps, Ends, Refused, at_member, acknowledged_by, master_hears_htcp, master_hears, delivered_to}
 use Rattle.world_rules.specs.Consequence.{delivered, octets_reach, octets_come, ask_delivered, answer_delivered, origin_by, origin_to, foreign_by, foreign_to}
-use Rattle.world_rules.specs.Consequence.{fetching_at, issue_by, consequence}
+use Rattle.world_rules.specs.Consequence.{fetching_at, issue_by, admit_by, consequence}
 
 -- the two faults of refused events
 abbrev IsOfEvents : WorldFault → Type 0
@@ -118,6 +119,10 @@ issue_right : (t : Tables) (w : World) (key : List ℕ) (o : Option MasterFault)
 issue_right t w key None = tt
 issue_right t w key (Some f) = tt
 
+admit_right : (t : Tables) (w : World) (id : ℕ) (o : Option MasterFault) → IsRight (admit_by t w id o)
+admit_right t w id None = tt
+admit_right t w id (Some f) = tt
+
 consequence_right : (t : Tables) (w : World) (e : WorldEvent) → IsRight (consequence t w e)
 consequence_right t w (world.Clock now) = tt
 consequence_right t w (world.Client id ask) = member_right t id _ tt
@@ -134,6 +139,7 @@ consequence_right t w (world.Expire id serial) = member_right t id _ tt
 consequence_right t w (world.Fault id) = member_right t id _ tt
 consequence_right t w (world.Restart id) = member_right t id _ tt
 consequence_right t w (world.Issue key) = issue_right t w key (issue_fault w.master)
+consequence_right t w (world.Admit id) = admit_right t w id (admit_fault (nodes_of t) w.master id)
 consequence_right t w world.Resend = tt
 consequence_right t w (world.Status number) = tt
 consequence_right t w world.RestartMaster = tt

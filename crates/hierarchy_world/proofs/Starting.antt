@@ -7,7 +7,7 @@ use Rattle.values_tables.specs.declared.plain.Member.{Member}
 use Rattle.values_tables.specs.declared.plain.Tables.{Tables}
 use Rattle.node_rules.specs.declared.state.NodeState.{NodeState}
 use Rattle.node_rules.specs.State.{opened}
-use Rattle.purge_rules.specs.Members.{members_of}
+use Rattle.purge_rules.specs.Needed.{nodes_of as nodes_of_roster}
 use Rattle.purge_rules.specs.Purges.{no_purges}
 use Rattle.purge_rules.specs.Calls.{MasterState, opened as opened_master}
 use Rattle.world_rules.specs.World.{MemberState, new_node, new_world}
@@ -45,15 +45,15 @@ all_member_states : (t : Tables) (members : List Member) → member_states (node
 all_member_states t [] = refl
 all_member_states t (m ∷ members) = ap (λ (l : List MemberState). record { id = m.cache.id; node = new_node } ∷ l) (all_member_states t members)
 
-pub new_sound : (p : Parts) (t : Tables) → p.roster ≡ t → p.nodes.items ≡ nodes_of t t.members → p.master.members ≡ members_of t →
+pub new_sound : (p : Parts) (t : Tables) → p.roster ≡ t → p.nodes.items ≡ nodes_of t t.members → p.master.nodes ≡ nodes_of_roster t →
     p.master.state ≡ opened_master no_purges → IsSound p
-new_sound p t roster nodes members state = record {
+new_sound p t roster nodes purged state = record {
   nodes = subst (λ (l : List MemberNode). AllByRecursion (IsMemberNode p.roster) l) (sym nodes)
       (subst (λ (r : Tables). AllByRecursion (IsMemberNode r) (nodes_of t t.members)) (sym roster) (all_member_nodes t t.members));
   ids = ap (λ (l : List MemberNode). map (λ (n : MemberNode). n.id) l) nodes ∙ all_ids t t.members
       ∙ ap (λ (r : Tables). map (λ (m : Member). m.cache.id) r.members) (sym roster);
   master = record {
-    members = members ∙ ap (λ (r : Tables). members_of r) (sym roster);
+    nodes = purged ∙ ap (λ (r : Tables). nodes_of_roster r) (sym roster);
     is_open = ap (λ (s : MasterState). s.closed) state;
   };
 }

@@ -2,7 +2,7 @@
 -- after its step, then the items are added that its reply sends, and what waits.
 use Rattle.std.proofs.Common.{◌≡◌, ℕ, List, [], ◌++◌, map, set, slice_get, Option, Some, None, Result, refl, sym, ◌∙◌, ap, subst}
 use Rattle.std.specs.List.{AllByRecursion}
-use Rattle.purge_rules.specs.Members.{members_of}
+use Rattle.purge_rules.specs.Needed.{nodes_of}
 use Rattle.roster.specs.Lookups.{member_of}
 use Rattle.node_rules.specs.declared.event.Event.{Event}
 use Rattle.node_rules.specs.declared.reply.Reply.{Reply}
@@ -61,7 +61,7 @@ adds_sound a b datagrams asks answers waiting adds sound = record {
       (subst (λ r. AllByRecursion (IsMemberNode r) a.nodes.items) (sym adds.roster) sound.nodes);
   ids = ap (map (λ n. n.id)) adds.nodes ∙ sound.ids ∙ ap (λ r. map (λ m. m.cache.id) r.members) (sym adds.roster);
   master = record {
-    members = ap (λ m. m.members) adds.master ∙ sound.master.members ∙ ap members_of (sym adds.roster);
+    nodes = ap (λ m. m.nodes) adds.master ∙ sound.master.nodes ∙ ap nodes_of (sym adds.roster);
     is_open = ap (λ m. m.state.closed) adds.master ∙ sound.master.is_open;
   };
 }
@@ -78,7 +78,8 @@ answers_here waiting id e serial asked None is = refl
 answers_here waiting id e serial asked (Some serve) is = ap (answer_to id serve.asker serve.served) (answered_here waiting id e serial asked serve.waiter is)
 
 -- A node's step, all that it sends, and what waits afterwards
-module _ (old mid sent new : Parts) (id : ℕ) (e : Event ℕ) (asked : Option Answered) (outcome : Result (Reply ℕ) StepFault) (h : HasStepped old id e outcome mid)
+module _ (old mid sent new : Parts) (id : ℕ) (e : Event ℕ) (asked : Option Answered) (outcome : Result (Reply ℕ) StepFault)
+    (h : HasStepped old id e outcome mid)
     (is : asked ≡ asked_now e (serial_of asked))
     (first : Adds mid sent (datagrams_from (member_of mid.roster id) (reply_in outcome).send) (asks_in id (reply_in outcome).begin)
     (answers_by mid.waiting.items id asked (reply_in outcome).serve) [])

@@ -5,7 +5,7 @@ use Rattle.std.specs.Prelude.{if◌then◌else◌}
 use Rattle.std.specs.List.{AllByRecursion}
 use Rattle.floor_rules.specs.Floors.{FloorTable}
 use Rattle.values_tables.specs.declared.plain.Tables.{Tables}
-use Rattle.purge_rules.specs.Members.{members_of}
+use Rattle.purge_rules.specs.Needed.{nodes_of}
 use Rattle.purge_rules.specs.Purges.{PurgeList}
 use Rattle.purge_master.specs.View.{MasterView}
 use Rattle.node_rules.specs.declared.state.NodeState.{NodeState}
@@ -21,7 +21,7 @@ use Rattle.world_rules.specs.declared.outcome.WorldFault.{WorldFault}
 use Rattle.world_rules.specs.declared.outcome.WorldFault.TheVariants as fault
 use Rattle.node_rules.specs.State.{setting}
 use Rattle.world_rules.specs.World.{MemberState, Datagram, PeerAsk, PeerAnswer, Waiting, World, node_at, with_node}
-use Rattle.world_rules.specs.Consequence.{Seen, Replied, Issued, NotIssued, Reported, Nothing, Consequence, Refused, consequence}
+use Rattle.world_rules.specs.Consequence.{Seen, Replied, Issued, NotIssued, Admitted, NotAdmitted, Reported, Nothing, Consequence, Refused, consequence}
 use Rattle.world_rules.specs.Run.{Takes, IsOfKey}
 use Rattle.hierarchy_world.specs.declared.parts.Parts.{Parts}
 use Rattle.hierarchy_world.specs.declared.telling.Seen.{Seen as SeenHere}
@@ -70,9 +70,9 @@ pub record IsMemberNode (tables : Tables) (n : MemberNode) : Type 0 where
   pub roster : n.roster ≡ tables
   pub stored : IsStored n
 
--- the master has the roster's members, and is open
+-- the master has the roster's nodes, and is open
 pub record IsInOffice (roster : Tables) (m : MasterView PurgeList) : Type 0 where
-  pub members : m.members ≡ members_of roster
+  pub nodes : m.nodes ≡ nodes_of roster
   pub is_open : m.state.closed ≡ false
 
 -- the invariant: each member has its node, in the roster's order, and the master is open
@@ -95,6 +95,8 @@ abbrev pub seen_of : SeenHere → Seen
 seen_of (here.Replied node outcome) = Replied node outcome
 seen_of (here.Issued number) = Issued number
 seen_of (here.NotIssued f) = NotIssued f
+seen_of (here.Admitted number) = Admitted number
+seen_of (here.NotAdmitted f) = NotAdmitted f
 seen_of (here.Reported number status) = Reported number status
 seen_of here.Nothing = Nothing
 

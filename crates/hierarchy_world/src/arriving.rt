@@ -219,7 +219,8 @@ impl Parts {
     pub(crate) fn fail(&mut self, id: u8, serial: u32) -> Result<Seen, WorldFault>
         requires { IsSound self.old }
         ensures { IsTaken self.old (consequences.at_member self.old.roster id
-            (consequences.NodeSteps id (events.FetchFailed serial self.old.clock) 0)) result self.new }
+            (consequences.NodeSteps id (events.FetchFailed serial self.old.clock) 0))
+            result self.new }
     {
         let Some(place) = self.place_of(id) else {
             return Err(WorldFault::NoSuchPacket);
@@ -245,7 +246,8 @@ impl Parts {
     pub(crate) fn fault(&mut self, id: u8) -> Result<Seen, WorldFault>
         requires { IsSound self.old }
         ensures { IsTaken self.old (consequences.at_member self.old.roster id
-            (consequences.Ends consequences.Nothing (consequences.with_member_state (world_of self.old) id
+            (consequences.Ends consequences.Nothing
+            (consequences.with_member_state (world_of self.old) id
             (closed_node (node_at (world_of self.old).states id))))) result self.new }
     {
         let Some(place) = self.place_of(id) else {
@@ -259,7 +261,8 @@ impl Parts {
     pub(crate) fn restart(&mut self, id: u8) -> Result<Seen, WorldFault>
         requires { IsSound self.old }
         ensures { IsTaken self.old (consequences.at_member self.old.roster id
-            (consequences.Ends consequences.Nothing (consequences.with_member_state (world_of self.old) id
+            (consequences.Ends consequences.Nothing
+            (consequences.with_member_state (world_of self.old) id
             (opened (node_at (world_of self.old).states id).floors)))) result self.new }
     {
         let Some(place) = self.place_of(id) else {

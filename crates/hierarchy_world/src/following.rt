@@ -52,6 +52,7 @@ impl Parts {
             WorldEvent::Fault { node } => self.fault(node),
             WorldEvent::Restart { node } => self.restart(node),
             WorldEvent::Issue { key } => self.issue(&key),
+            WorldEvent::Admit { node } => self.admit(node),
             WorldEvent::Resend => self.resend(),
             WorldEvent::Status { number } => Ok(self.status(number)),
             WorldEvent::RestartMaster => self.restart_master(),

@@ -46,7 +46,12 @@ impl Model for PeerAsk {
 
     ghost Value = { world.PeerAsk };
 
-    ghost view = { λ a. record { sender = a.sender; receiver = a.receiver; serial = a.serial; ask = a.ask } };
+    ghost view = { λ a. record {
+      sender = a.sender;
+      receiver = a.receiver;
+      serial = a.serial;
+      ask = a.ask;
+    } };
 }
 
 /// A response that a member sent to a member.
@@ -71,7 +76,14 @@ impl Model for PeerAnswer {
 
     ghost Value = { world.PeerAnswer };
 
-    ghost view = { λ a. record { sender = a.sender; receiver = a.receiver; serial = a.serial; key = a.key; answer = a.answer; mark = a.mark } };
+    ghost view = { λ a. record {
+      sender = a.sender;
+      receiver = a.receiver;
+      serial = a.serial;
+      key = a.key;
+      answer = a.answer;
+      mark = a.mark;
+    } };
 }
 
 /// A member's request that waits at another member's node.

@@ -18,7 +18,7 @@ use node_core::Node;
 use purge_master::Master;
 use purge_rules::MemoryPurges;
 use roster::{Listed, Roster};
-use std::alloc::{AllocError, Global};
+use std::alloc::Global;
 use std::marker::Model;
 use world_rules::{Outcome, WorldEvent, WorldFault};
 
@@ -44,7 +44,12 @@ impl Model for World {
 
     ghost coded = { Prim.hlevel (codes, floors_code) };
 
-    ghost view = { λ w. record { roster = w.parts.roster; place = next_place w.parts.place; spoilt = w.spoilt; world = world_of w.parts } };
+    ghost view = { λ w. record {
+      roster = w.parts.roster;
+      place = next_place w.parts.place;
+      spoilt = w.spoilt;
+      world = world_of w.parts;
+    } };
 
     ghost invariant = { λ w. w.spoilt ≡ false → IsSound w.parts };
 }
@@ -59,7 +64,8 @@ fn is_spoiling(answer: &Result<Outcome, WorldFault>) -> bool
 /// A new node of a member, which holds nothing.
 fn new_node(alloc: Global, roster: &Roster, id: u8) -> Result<Node<u64, MemoryFloors>, WorldFault>
     ensures made { IfOk result (λ node.
-        node ≡ record { roster = roster.now; id = id; state = opened no_floors; store = no_floors }) }
+        node
+        ≡ record { roster = roster.now; id = id; state = opened no_floors; store = no_floors }) }
     ensures fault { IfErr result (λ fault. fault ≡ NoMemory) }
 {
     let copy = roster.copy(alloc)?;

@@ -21,7 +21,6 @@ use node_rules::{Begin, Event, Message, Outgoing, Reply, SERIALS, Sent, Serve, S
 use object_store::WebCopy;
 use roster::{Cache, address_by, is_foreign};
 use std::alloc::{AllocError, Global};
-use url_key::Key;
 use world_rules::WorldFault;
 
 /// A copy of a message.

@@ -7,8 +7,11 @@ ghost use Rattle.htcp_wire.specs.Written.{Fits};
 ghost use Rattle.node_rules.specs.declared.message.Message.TheVariants as messages;
 ghost use Rattle.roster.specs.Lookups.{member_of as member_by_id, member_at};
 ghost use Rattle.values_plain.specs.declared.address.Udp.TheVariants as udp;
-ghost use Rattle.purge_rules.specs.Clear.{clear as clear_of, message_of};
-ghost use Rattle.purge_rules.specs.Calls.{issue_fault};
+ghost use Rattle.purge_rules.specs.Members.{possible_ids};
+ghost use Rattle.purge_rules.specs.Needed.{nodes_of};
+ghost use Rattle.purge_rules.specs.Clear.{clear as clear_of, base_clear as base_clear_of};
+ghost use Rattle.purge_rules.specs.Clear.{message_of};
+ghost use Rattle.purge_rules.specs.Calls.{issue_fault, admit_fault};
 ghost use Rattle.world_rules.specs.Consequence as consequences;
 ghost use Rattle.hierarchy_world.specs.Parts.{IsSound, IsTaken, Adds, world_of};
 ghost use Rattle.hierarchy_world.specs.Posted.{heard_by};
@@ -19,7 +22,7 @@ use crate::telling::Seen;
 use htcp_wire::Htcp;
 use node_rules::{Message, Sent};
 use purge_master::Master;
-use purge_rules::{MasterFault, MemoryPurges, clear};
+use purge_rules::{MasterFault, MemberSet, MemoryPurges, base_clear, clear};
 use roster::{Address, Roster, Udp};
 use std::alloc::{AllocError, Global};
 use std::mem::replace;
@@ -62,7 +65,8 @@ fn new_clear(
     key: &Key,
 ) -> Result<Option<Datagram>, AllocError>
     ensures { IfOk result (λ made.
-        consequences.clear_to roster.now (Some (clear_of number key.now)) (member_by_id roster.now id)
+        consequences.clear_to roster.now (Some (clear_of number key.now))
+        (member_by_id roster.now id)
         ≡ cons_option made []) }
 {
     match htcp_of(roster, id) {
@@ -74,27 +78,67 @@ fn new_clear(
     }
 }
 
-/// The CLRs of a new purge: one to each member, in order of ids.
-#[tactic(auto, using(crate::proofs::Numbers::clears_to_all))]
+/// The CLR of a new purge to the member with this id, if there is one and the purge needs it.
+fn needed_clear(
+    alloc: Global,
+    roster: &Roster,
+    needed: MemberSet,
+    id: u8,
+    number: u32,
+    key: &Key,
+) -> Result<Option<Datagram>, AllocError>
+    ensures { IfOk result (λ made.
+        consequences.clear_if roster.now needed number key.now id ≡ cons_option made []) }
+{
+    if needed.has(id) {
+        new_clear(alloc, roster, id, number, key)
+    } else {
+        Ok(None)
+    }
+}
+
+/// The CLRs of a new purge: one to each member that it needs, in order of ids.
 fn new_clears(
     alloc: Global,
     roster: &Roster,
+    needed: MemberSet,
     number: u32,
     key: &Key,
 ) -> Result<Vec<Datagram>, AllocError>
-    ensures { IfOk result (λ made. made.items ≡ consequences.clears_of roster.now number key.now) }
+    ensures { IfOk result (λ made. made.items
+        ≡ flat_map (consequences.clear_if roster.now needed number key.now) possible_ids) }
 {
     let ids = [1u8, 2, 3, 4, 5, 6, 7, 8, 9, 10, 11, 12, 13, 14, 15, 16];
     let mut made = Vec::with_capacity(alloc, ids.len())?;
     for id in &ids {
-        if let Some(datagram) = new_clear(alloc, roster, *id, number, key)? {
+        if let Some(datagram) = needed_clear(alloc, roster, needed, *id, number, key)? {
             made.push(datagram)?;
         }
     }
     Ok(made)
 }
 
-/// The CLR of a pending purge to the member with this id, if there are both.
+/// The CLR of an admission to the member with this id, if there is one.
+fn new_base_clear(
+    alloc: Global,
+    roster: &Roster,
+    id: u8,
+    number: u32,
+) -> Result<Option<Datagram>, AllocError>
+    ensures { IfOk result (λ made.
+        consequences.clear_to roster.now (Some (base_clear_of number)) (member_by_id roster.now id)
+        ≡ cons_option made []) }
+{
+    match htcp_of(roster, id) {
+        Some(address) => {
+            let message = base_clear(alloc, number)?;
+            Ok(Some(clear_to(roster.master(), address, message)))
+        }
+        None => Ok(None),
+    }
+}
+
+/// The CLR of a pending number to the member with this id, if there are both.
 fn due_clear(
     roster: &Roster,
     master: &Master<MemoryPurges>,
@@ -111,7 +155,7 @@ fn due_clear(
     }
 }
 
-/// The CLRs for these pairs of a pending purge's number and a member's id.
+/// The CLRs for these pairs of a pending number and a member's id.
 fn due_clears(
     alloc: Global,
     roster: &Roster,
@@ -132,13 +176,28 @@ fn due_clears(
 }
 
 impl Parts {
-    /// Sends the CLR of a new purge to each member, in order of ids.
+    /// Sends the CLR of a new purge to each member that it needs, in order of ids.
     fn send_clears(&mut self, number: u32, key: &Key) -> Result<(), AllocError>
+        requires { self.old.master.nodes ≡ nodes_of self.old.roster }
         ensures { OnOk result (Adds self.old self.new
-            (consequences.clears_of self.old.roster number key.now) [] [] []) }
+            (consequences.clears_of self.old.roster self.old.master.state.purges.admissions number
+            key.now) [] [] []) }
     {
-        let mut made = new_clears(self.alloc, &self.roster, number, key)?;
+        let needed = self.master.purges().needed(self.master.nodes(), number);
+        let mut made = new_clears(self.alloc, &self.roster, needed, number, key)?;
         self.datagrams.append(&mut made)
+    }
+
+    /// Sends the CLR of an admission to the member with this id, if there is one.
+    fn send_base_clear(&mut self, id: u8, number: u32) -> Result<(), AllocError>
+        ensures { OnOk result (Adds self.old self.new
+            (consequences.clear_to self.old.roster (Some (base_clear_of number))
+            (member_by_id self.old.roster id)) [] [] []) }
+    {
+        if let Some(datagram) = new_base_clear(self.alloc, &self.roster, id, number)? {
+            self.datagrams.push(datagram)?;
+        }
+        Ok(())
     }
 
     /// The master issues a purge and sends its CLRs, or refuses.
@@ -164,7 +223,28 @@ impl Parts {
         }
     }
 
-    /// The master sends each pending purge again to each member that has not acknowledged it.
+    /// The master admits a member and sends its CLR, or refuses.
+    pub(crate) fn admit(&mut self, id: u8) -> Result<Seen, WorldFault>
+        requires { IsSound self.old }
+        ensures { IsTaken self.old (consequences.admit_by self.old.roster (world_of self.old) id
+            (admit_fault (nodes_of self.old.roster) self.old.master.state.purges id))
+            result self.new }
+    {
+        match self.master.admit(id) {
+            Ok(number) => {
+                self.send_base_clear(id, number)?;
+                Ok(Seen::Admitted(number))
+            }
+            Err(fault) => match fault {
+                MasterFault::NotJoining | MasterFault::NumbersSpent | MasterFault::TooManyPending =>
+                    Ok(Seen::NotAdmitted(fault)),
+                _ => Err(WorldFault::NoMemory),
+            },
+        }
+    }
+
+    /// The master sends each pending number again to each member that the number needs and that has
+    /// not acknowledged it.
     pub(crate) fn resend(&mut self) -> Result<Seen, WorldFault>
         requires { IsSound self.old }
         ensures { IsTaken self.old (consequences.Ends consequences.Nothing
@@ -180,7 +260,7 @@ impl Parts {
         Ok(Seen::Nothing)
     }
 
-    /// The master reports the status of a purge.
+    /// The master reports the status of a number.
     pub(crate) fn status(&self, number: u32) -> Seen
         requires { IsSound self.now }
         ensures { IsTaken self.now (consequences.reports self.now.roster (world_of self.now) number)
@@ -190,7 +270,7 @@ impl Parts {
     }
 
     /// The master counts a member's response to the CLR with this number, with this response code,
-    /// and reports the purge's status.
+    /// and reports the status of that number.
     fn acknowledge(&mut self, id: u8, number: u32, code: u8) -> Result<Seen, WorldFault>
         requires { IsSound self.old }
         ensures { IsTaken self.old (consequences.acknowledged_by self.old.roster
@@ -225,7 +305,8 @@ impl Parts {
     /// The master restarts, with the purges that its store kept.
     pub(crate) fn restart_master(&mut self) -> Result<Seen, WorldFault>
         requires { IsSound self.old }
-        ensures { IsTaken self.old (consequences.Ends consequences.Nothing (world_of self.old)) result self.new }
+        ensures { IsTaken self.old (consequences.Ends consequences.Nothing (world_of self.old))
+            result self.new }
     {
         let alloc = self.alloc;
         let Ok(none) = Master::open(alloc, &self.roster, MemoryPurges::new(alloc)) else {

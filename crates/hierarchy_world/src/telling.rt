@@ -23,7 +23,11 @@ pub(crate) enum Seen {
     Issued(u32),
     /// The master refused to issue a purge.
     NotIssued(MasterFault),
-    /// The master reported the status of the purge with this number.
+    /// The master admitted a member under this number.
+    Admitted(u32),
+    /// The master refused to admit a member.
+    NotAdmitted(MasterFault),
+    /// The master reported the status of this number.
     Reported(u32, Status),
     /// Nothing visible.
     Nothing,
@@ -84,6 +88,7 @@ fn plain(alloc: Global, before: Counts, after: Counts) -> Result<Outcome, AllocE
         serve: None,
         answer: new_item(before.answers, after.answers),
         purge: None,
+        admitted: None,
         status: None,
         round: None,
         sent: numbers_after(alloc, before.datagrams, after.datagrams)?,
@@ -117,7 +122,10 @@ pub(crate) fn tell(
             ..
         } => outcome.fault = Some(ActorFault::Step(fault)),
         Seen::Issued(number) => outcome.purge = Some(number),
-        Seen::NotIssued(fault) => outcome.fault = Some(ActorFault::Master(fault)),
+        Seen::Admitted(number) => outcome.admitted = Some(number),
+        Seen::NotIssued(fault) | Seen::NotAdmitted(fault) => {
+            outcome.fault = Some(ActorFault::Master(fault));
+        }
         Seen::Reported(number, status) => outcome.status = Some((number, status)),
         Seen::Nothing => {}
     }

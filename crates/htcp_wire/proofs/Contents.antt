@@ -72,6 +72,7 @@ ask_takes section content fits rr e =
       ]
     ]
 
+-- what is read is the content of the first test on OPCODE and RESPONSE that holds, and none before it does
 answer_takes : (section : Data) (content : Content) → IsOctets section.op_data → section.rr ≡ true → section.f1 ≡ false
     → answer_at section.opcode section.response section.op_data ≡ Some content → IsContent content section
 answer_takes section content fits rr f1 e =
@@ -145,6 +146,7 @@ clr_again section desired reason spec small clears =
     let long : ltb (length (clears.high ∷ (clears.low * 16 + reason) ∷ (specifier spec ++ clears.begins.spare))) 2 ≡ false = le-ltb _ _ (omega arith) in
     ap (clr_at desired) parts ∙ rw (long, reason_is, specifier_again spec clears.begins.spare (omega arith)) refl
 
+-- each content's OPCODE and RESPONSE pass its own test and none before it, and its parts are read again
 pub content_again : (content : Content) (section : Data) → length section.op_data < 2 ^ 16 → IsContent content section → content_at section ≡ Some content
 unfolding content_at
 content_again (NopAsk desired) section small asks = asks_again section 0 desired (NopAsk desired) asks refl

@@ -80,6 +80,7 @@ ended_line text start end early inside =
     let short : length (line_at text start end) - 1 ≡ end - 1 - start = omega arith in
     ap (λ (n : ℕ). take n (line_at text start end)) short ∙ take-take (end - 1 - start) (end - start) (drop start text) (omega arith)
 
+-- the line that ends here is the first of those that were left, so its value is the next that is found
 pub KeepsLines-end : (value : List ℕ → Option (List ℕ)) (text : List ℕ) (start end : ℕ) (found : List (List ℕ)) → end < length text
     → ends_line (line_at text start end) (get_or text end 0) ≡ true → KeepsLines value text start end found
     → KeepsLines value text (end + 1) (end + 1) (found ++ option_to_list (value (line_at text start (end - 1))))

@@ -80,6 +80,7 @@ header_cut octets fits long major =
     ∙ ap (λ (t : List ℕ). big_bytes 2 (length_field octets) ++ t) (pair_at 2 octets (omega arith))
     ∙ ap (λ (n : ℕ). big_bytes 2 (length_field octets) ++ n ∷ minor_field octets ∷ drop 4 octets) major
 
+-- the fields stand one behind another, each as long as its place, and LENGTH says where the last one ends
 data_cut : (octets : List ℕ) → IsOctets octets → CanCut octets → drop 4 octets ≡ data_text (reserved_in (slice_index octets 7)) (trans_field octets)
     (data_field octets) ++ auth_field octets
 data_cut octets fits can =
@@ -142,6 +143,7 @@ pub record HasParts (octets : List ℕ) (minor trans : ℕ) (section : Data) (le
   pub left_is : auth_field octets ≡ left
   pub size_is : length octets ≡ 12 + length section.op_data + length left
 
+-- what is spelled before a field is as long as the field's offset, so each field is read where it is spelled
 pub parts_again : (octets : List ℕ) (minor reserved trans : ℕ) (section : Data) (left : List ℕ) → length octets < 2 ^ 16 → trans < 2 ^ 32 →
     section.response < 16
     → octets ≡ header (length octets) minor ++ (data_text reserved trans section ++ left) → HasParts octets minor trans section left

@@ -29,6 +29,7 @@ pub record Passes (octets : List ℕ) : Type 0 where
   pub can : CanCut octets
   pub content : is_none (content_at (data_field octets)) ≡ false
 
+-- without a fault each test in turn has passed, and each is about one part
 pub passes : (octets : List ℕ) → first_fault octets ≡ None → Passes octets
 unfolding first_fault
 passes octets e =
@@ -55,6 +56,7 @@ passes octets e =
       content = f.0;
     }
 
+-- the octets are their parts, cut at the offsets, and each part has passed its test
 pub spells_of : (octets : List ℕ) (message : Htcp) → IsOctets octets → first_fault octets ≡ None → Holds octets message → Spells octets message
 spells_of octets message fits e holds =
     let tests = passes octets e in
@@ -96,6 +98,7 @@ trans_of octets message s =
     let p = parts_again octets message.minor s.reserved message.trans s.section left s.short s.trans s.response s.parts in
     rw (le-ltb (length octets) 12 (omega (arith, p.size_is)), p.trans_is) refl
 
+-- each part is read where it is spelled, so each test passes and the fields are the message's
 pub read_of : (octets : List ℕ) (message : Htcp) → Spells octets message → IsReadAs octets message
 unfolding first_fault
 read_of octets message s =

@@ -1,12 +1,13 @@
--- The numbers in the private lines `X-Purge-Number: n` and `X-Purge-Stamp: n` of REQ-HDRS and
--- CACHE-HDRS, which are no part of RFC 2756. `number_in_text` is the definition.
+-- The numbers in the private lines `X-Purge-Number: n` and `X-Purge-Base: n` of REQ-HDRS, and
+-- `X-Purge-Stamp: n` of CACHE-HDRS, which are no part of RFC 2756. `number_in_text` is the
+-- definition.
 use Rattle.std.specs.Prelude.{ℕ, ◌-◌, ◌^◌, Bool, not, ◌&&◌, ◌||◌, ◌==◌, nat_lt, nat_le, List, [], ◌∷◌, ◌++◌, length, take, drop, slice_index, position, Option}
 use Rattle.std.specs.Prelude.{Some, None, is_none, Result, Ok, Err, codes, map, bytes_eq, if◌then◌else◌}
 use Rattle.std.specs.List.{list_all, filter_map, before_first, after_first, position_or_len, suffix_len}
 use Rattle.std.specs.Char.{is_ascii_digit, to_ascii_lowercase}
 use Rattle.std.specs.Str.Parse.{digits_value}
 use Rattle.htcp_wire.specs.declared.numbers.HeaderKind.{HeaderKind}
-use Rattle.htcp_wire.specs.declared.numbers.HeaderKind.TheVariants.{PurgeNumber, PurgeStamp}
+use Rattle.htcp_wire.specs.declared.numbers.HeaderKind.TheVariants.{PurgeNumber, PurgeStamp, PurgeBase}
 use Rattle.htcp_wire.specs.declared.fault.HtcpFault.{HtcpFault}
 use Rattle.htcp_wire.specs.declared.fault.HtcpFault.TheVariants.{BadNumber}
 
@@ -14,6 +15,7 @@ use Rattle.htcp_wire.specs.declared.fault.HtcpFault.TheVariants.{BadNumber}
 abbrev pub line_name : HeaderKind → List ℕ
 line_name PurgeNumber = codes "X-Purge-Number"
 line_name PurgeStamp = codes "X-Purge-Stamp"
+line_name PurgeBase = codes "X-Purge-Base"
 
 -- CR
 abbrev pub carriage_return : ℕ

@@ -8,8 +8,8 @@
 //! - [`decode`]: the message of a datagram, or its first fault ([`HtcpFault`]).
 //! - [`is_test`]: whether a datagram begins like a TST request, before it is decoded.
 //! - [`fits`], [`encode`]: whether a message can be written, and its octets.
-//! - [`number_in`]: the number in a private header line, `X-Purge-Number` or `X-Purge-Stamp`
-//!   ([`HeaderKind`]).
+//! - [`number_in`]: the number in a private header line, `X-Purge-Number`, `X-Purge-Stamp` or
+//!   `X-Purge-Base` ([`HeaderKind`]).
 //! - [`grammar_is_exact`], [`decoded_is_exact`], [`written_is_spelled`], [`lines_are_exact`]: laws.
 //!   A datagram spells exactly one message or has a fault; the function `decoded` gives that
 //!   message; what `encode` writes, `decode` reads back; a text has exactly the lines in which

@@ -20,6 +20,8 @@ pub enum HeaderKind {
     PurgeNumber,
     /// `X-Purge-Stamp: n` in CACHE-HDRS of a response to TST: the stamp of a copy.
     PurgeStamp,
+    /// `X-Purge-Base: n` in REQ-HDRS of a CLR: the number under which a node is admitted.
+    PurgeBase,
 }
 
 impl HeaderKind {
@@ -30,6 +32,7 @@ impl HeaderKind {
         match self {
             HeaderKind::PurgeNumber => b"X-Purge-Number",
             HeaderKind::PurgeStamp => b"X-Purge-Stamp",
+            HeaderKind::PurgeBase => b"X-Purge-Base",
         }
     }
 }

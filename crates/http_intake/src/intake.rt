@@ -35,7 +35,8 @@ impl Model for Intake {
 
     ghost view = { λ i. record { octets = i.octets.items; calls = i.turns } };
 
-    ghost invariant = { λ i. (i.turns ≤ 70000) × (i.turns ≤ vec_len i.octets) × (vec_len i.octets ≤ 4096 * i.turns) };
+    ghost invariant = { λ i. (i.turns ≤ 70000) × (i.turns ≤ vec_len i.octets)
+        × (vec_len i.octets ≤ 4096 * i.turns) };
 }
 
 impl Intake {

@@ -1,14 +1,24 @@
 -- The grammar of lists: the members of a value, joined by commas, are the value; these commas
 -- stand outside quoted strings, and no other commas do (RFC 9110, sections 5.6.1 and 5.6.4).
-use Rattle.std.specs.Prelude.{◌≡◌, ℕ, Bool, true, not, ◌&&◌, List, [], ◌∷◌, ◌++◌}
+use Rattle.std.specs.Prelude.{◌≡◌, ℕ, Bool, true, false, not, ◌&&◌, List, [], ◌∷◌, ◌++◌}
 use Rattle.http_lists.specs.declared.members.Quoting.{Quoting}
-use Rattle.http_lists.specs.declared.members.Quoting.TheVariants.{Outside}
+use Rattle.http_lists.specs.declared.members.Quoting.TheVariants.{Outside, Inside, Escaped}
 use Rattle.http_lists.specs.Members.{comma, quoting_after, ends_member}
 
 -- the state of the octet after a text, given the state of the text's first octet
 abbrev pub quoting_behind : Quoting → List ℕ → Quoting
 quoting_behind quoting [] = quoting
 quoting_behind quoting (octet ∷ text) = quoting_behind (quoting_after quoting octet) text
+
+-- the octet stands in no quoted string
+abbrev pub is_outside : Quoting → Bool
+is_outside Outside = true
+is_outside Inside = false
+is_outside Escaped = false
+
+-- each quoted string of the value is closed (RFC 9110, section 5.6.4)
+abbrev pub is_closed : List ℕ → Bool
+is_closed value = is_outside (quoting_behind Outside value)
 
 -- no comma of the text stands outside quoted strings, given the state of the text's first octet
 abbrev pub is_unbroken : Quoting → List ℕ → Bool

@@ -2,6 +2,7 @@
 
 ghost use Rattle.std.specs.Prelude.{◌≡◌, ◌+◌, ◌≤◌, [], ◌∷◌, length, take, drop, nat_lt};
 ghost use Rattle.std.specs.Prelude.{if◌then◌else◌};
+ghost use Rattle.http_lists.specs.Cut.{is_closed as is_closed_list, is_outside};
 ghost use Rattle.http_lists.specs.Left.{members_left};
 ghost use Rattle.http_lists.specs.Members.{members, quoting_after, ends_member as is_end};
 
@@ -29,6 +30,25 @@ impl Quoting {
             (same, _) => same,
         }
     }
+
+    /// Whether it stands in no quoted string.
+    fn is_outside(self) -> bool
+        ensures { result ≡ is_outside self }
+    {
+        self == Quoting::Outside
+    }
+}
+
+/// Whether each quoted string of a field value is closed (RFC 9110, section 5.6.4). One that is not
+/// holds the rest of the value, with its commas.
+pub fn is_closed(value: &[u8]) -> bool
+    ensures { result ≡ is_closed_list value.now }
+{
+    let mut state = Quoting::Outside;
+    for octet in value {
+        state = state.after(*octet);
+    }
+    state.is_outside()
 }
 
 /// Whether a member ends at this octet: at a comma outside quoted strings.

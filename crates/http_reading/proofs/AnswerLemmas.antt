@@ -1,7 +1,8 @@
 -- From the places that the parser gave to the head that stands there, and from heads and body to a
 -- response. Octets that come later change nothing before them, so what a head says still holds
 -- once its body was read.
-use Rattle.std.proofs.Common.{◌≡◌, ℕ, ◌≤◌, ◌<◌, ◌+◌, ◌⊎◌, Bool, true, false, not, nat_le, if◌then◌else◌, List, [], ◌∷◌, ◌++◌, length, take, drop, Option, Some}
+use Rattle.std.proofs.Common.{◌≡◌, ℕ, ◌≤◌, ◌<◌, ◌+◌, ◌⊎◌, Bool, true, false, not, ◌&&◌, ◌==◌, codes, nat_le, if◌then◌else◌, List, [], ◌∷◌, ◌++◌, length, take}
+use Rattle.std.proofs.Common.{drop, Option, Some}
 use Rattle.std.proofs.Common.{None, Result, Ok, Err, IfOk, IfErr, refl, sym, ◌∙◌, ap, subst, inl, inr, arith, length-take, length-append, take-append-drop}
 use Rattle.std.proofs.Common.{drop-drop, append_assoc, append-nil}
 use Rattle.std.proofs.KnownBytes.{Consumes-trans}
@@ -17,29 +18,33 @@ use Rattle.http_messages.specs.Field.{are_few_fields}
 use Rattle.http_messages.specs.declared.fault.FetchFault.{FetchFault}
 use Rattle.http_messages.specs.declared.fault.FetchFault.TheVariants.{Io, EndOfInput, BadHead, HeadTooLong, BadTarget, MethodNotServed, Credentials, BadBody}
 use Rattle.http_messages.specs.declared.fault.FetchFault.TheVariants.{BodyTooLong, TooManyTurns, NoMemory}
-use Rattle.http_reading.specs.Fields.{fields_of}
+use Rattle.http_reading.specs.Fields.{fields_of, has_field}
 use Rattle.std.specs.Io.KnownBytes.{IsAtEnd}
 use Rattle.http_intake.specs.Reading.{Held, Takes, calls_made, IsReadFault}
 use Rattle.http_intake.specs.Heads.{longest_head, most_fields, head_window, IsLongResponse, IsOpenResponse, IsHeadFault}
-use Rattle.http_reading.specs.AnswerHead.{AnswerHead, ToldText, parts_of, head_at, is_interim, is_final, some_framing, framing_by, framed, told}
+use Rattle.http_reading.specs.AnswerHead.{AnswerHead, ToldText, parts_of, head_at, is_interim, is_final, some_framing, framing_in, framing_by, framed, told}
 use Rattle.http_reading.specs.declared.framing.BadLength.{BadLength}
 use Rattle.http_reading.specs.declared.framing.BadCoding.{BadCoding}
 use Rattle.http_reading.specs.declared.framing.Framing.{Framing}
 use Rattle.http_reading.specs.declared.framing.Framing.TheVariants.{Length}
 use Rattle.http_reading.specs.Framing.{content_length, is_chunked, framing_told, framing}
 use Rattle.http_reading.specs.Kept.{kept}
-use Rattle.http_reading.specs.Answers.{IsShortHead, IsInterim, PassesInterim, HeadSays, SpellsBody, StopsAtHead, ReadsBody, ReadsRest, ReadsOn, answer_of}
+use Rattle.http_reading.specs.Answers.{most_interim, IsShortHead, IsInterim, PassesInterim, HeadSays, SpellsBody, StopsAtHead, ReadsBody, ReadsRest}
+use Rattle.http_reading.specs.Answers.{ReadsOn, answer_of}
 use Rattle.http_reading.proofs.BodyLemmas.{takes_none}
 
 -- a head of these parts
-made : ℕ → List (List ℕ × List ℕ) → AnswerHead
-made status fields = record { status = status; fields = fields }
+made : ℕ → ℕ → List (List ℕ × List ℕ) → AnswerHead
+made status minor fields = record { status = status; minor = minor; fields = fields }
 
 -- the parts that the places cover are those of the head
 head_is : (window : List ℕ) (headers : List HeaderSpan) (r : ResponseSpans) (h : ResponseHead) → IsResponseAt window headers r h →
     head_at window headers r ≡ parts_of h
 unfolding made
-head_is window headers r h is = ap (λ s. made s (fields_of window (take r.headers headers))) is.code ∙ ap (made (status_code h)) is.fields
+head_is window headers r h is =
+    ap (λ s. made s r.version (fields_of window (take r.headers headers))) is.code
+    ∙ ap (λ v. made (status_code h) v (fields_of window (take r.headers headers))) is.version
+    ∙ ap (made (status_code h) h.minor) is.fields
 
 -- a head has no more fields than there was room for
 few_fields : (window : List ℕ) (headers : List HeaderSpan) (r : ResponseSpans) (h : ResponseHead) → AreFieldsAt window headers r.headers h.fields →
@@ -74,12 +79,14 @@ stands octets start headers r h room is =
 
 -- what the parts at the places say is what the head says
 pub head_says : (octets : List ℕ) (start : ℕ) (headers : List HeaderSpan) (r : ResponseSpans) (outcome : Result ToldText FetchFault) →
-    length headers ≡ most_fields → IsResponseOf (head_window start octets) headers r → is_interim r.code ≡ false → start + r.len ≤ length octets
+    start ≤ most_interim → length headers ≡ most_fields → IsResponseOf (head_window start octets) headers r → is_interim r.code ≡ false
+    → start + r.len ≤ length octets
     → told (head_at (head_window start octets) headers r) ≡ outcome → PassesInterim octets start → HeadSays octets start (start + r.len) outcome
-head_says octets start headers r outcome room (h, is) final inside says passes =
+head_says octets start headers r outcome few room (h, is) final inside says passes =
     let at : StandsAt octets start r h = stands octets start headers r h room is in
     record {
       interim = passes;
+      few = few;
       head = h;
       final = ap is_interim (sym is.code) ∙ final;
       short = at.short;
@@ -104,6 +111,7 @@ says_more : (octets more : List ℕ) (start end : ℕ) (outcome : Result ToldTex
     HeadSays (octets ++ more) start end outcome
 says_more octets more start end outcome says = record {
   interim = passes_more octets more start says.interim;
+  few = says.few;
   head = says.head;
   final = says.final;
   short = says.short;
@@ -157,9 +165,11 @@ plain_told : (h : AnswerHead) → Plain (told h)
 plain_told h =
     plain_if (not (is_final h.status)) (Err BadHead) _ (λ calls. refl)
     (plain_if (are_few_fields (kept h.fields)) _ (Err HeadTooLong)
-    (plain_framed h (framing_by h.status h.fields)
+    (plain_framed h (framing_by h.status h.minor h.fields)
     (plain_if (has_no_body h.status) (Ok None) _ tt
-    (plain_some (framing h.fields) (plain_framing (is_chunked h.fields) (content_length h.fields)))))
+    (plain_some (framing_in h.minor h.fields)
+    (plain_if ((h.minor == 0) && has_field (codes "transfer-encoding") h.fields) (Err BadBody) (framing h.fields) (λ calls. refl)
+    (plain_framing (is_chunked h.fields) (content_length h.fields))))))
     (λ calls. refl))
 
 -- a head that was refused for what it says
@@ -173,7 +183,7 @@ refused reader held start end fault few why = record {
     | inr says ↦ let plain : Plain {A = ToldText} (Err fault) = subst Plain says.says (plain_told (parts_of says.head)) in omega (arith, plain held.calls, few)
   ];
   outcome = elim why [
-    | inl same ↦ inr (inr (inr same))
+    | inl same ↦ inr (inr (inr (inr same)))
     | inr says ↦ inr (inl (start, end, says))
   ];
 }
@@ -227,7 +237,7 @@ rest_read before after old start end t (Err fault) says rest = record {
   taken = rest.taken;
   made = rest.made;
   outcome = elim rest.outcome [
-    | inl same ↦ inr (inr (inr same))
+    | inl same ↦ inr (inr (inr (inr same)))
     | inr stops ↦ inr (inr (inl (start, end, t, says_taken before after old rest.held start end (Ok t) rest.taken says, stops)))
   ];
 }
@@ -292,15 +302,15 @@ some_octets octets headers r (h, is) =
 
 -- a fault while a head was read
 pub head_stops : (reader_old reader : Option (List ℕ)) (old held : Held) (start : ℕ) (fault : FetchFault) → Takes reader_old reader old held →
-    calls_made fault held.calls ≤ 70000 → PassesInterim held.octets start → IsHeadFault fault
+    calls_made fault held.calls ≤ 70000 → PassesInterim held.octets start → start ≤ most_interim → IsHeadFault fault
     → (fault ≡ BadHead → NeverHasResponse (head_window start held.octets)) → (fault ≡ HeadTooLong → IsLongResponse (head_window start held.octets))
     → (IsReadFault fault → IsOpenResponse (drop start held.octets)) → (fault ≡ EndOfInput → IsAtEnd reader) → (fault ≡ TooManyTurns → held.calls ≡ 70000) →
     ReadsOn reader_old reader old (Err fault)
-head_stops reader_old reader old held start fault taken made passes kind bad long opened ended spent = record {
+head_stops reader_old reader old held start fault taken made passes few kind bad long opened ended spent = record {
   held = held;
   taken = taken;
   made = made;
-  outcome = inl (start, passes, stops fault kind bad long opened ended spent);
+  outcome = inl (start, passes, few, stops fault kind bad long opened ended spent);
 }
   where
     stops : (fault : FetchFault) → IsHeadFault fault → (fault ≡ BadHead → NeverHasResponse (head_window start held.octets)) →
@@ -318,6 +328,16 @@ head_stops reader_old reader old held start fault taken made passes kind bad lon
     stops BodyTooLong kind bad long opened ended spent = absurd cc
     stops TooManyTurns kind bad long opened ended spent = (opened refl, spent refl)
     stops NoMemory kind bad long opened ended spent = tt
+
+-- interim heads that have too many octets
+pub too_many : (reader_old reader : Option (List ℕ)) (old held : Held) (start : ℕ) → Takes reader_old reader old held → held.calls ≤ 70000
+    → PassesInterim held.octets start → most_interim < start → ReadsOn reader_old reader old (Err HeadTooLong)
+too_many reader_old reader old held start taken made passes many = record {
+  held = held;
+  taken = taken;
+  made = made;
+  outcome = inr (inr (inr (inl (start, passes, many, refl))));
+}
 
 -- two takings in a row are one
 pub takes_then : (old middle new : Held) (before between after : Option (List ℕ)) → Takes before between old middle → Takes between after middle new →

@@ -1,7 +1,8 @@
 -- From the places that the parser gave to the head that stands there, and from the faults of a
 -- head to those of a request. A head in the window is a front of the octets, so what holds of its
 -- parts holds of that front.
-use Rattle.std.proofs.Common.{◌≡◌, ℕ, ◌≤◌, ◌⊎◌, List, ◌++◌, length, take, drop, max, Option, Result, Ok, Err, IfErr, IsTrue, MatchResult, refl, sym, ◌∙◌, ap}
+use Rattle.std.proofs.Common.{◌≡◌, ℕ, ◌≤◌, ◌⊎◌, Bool, true, false, if◌then◌else◌, List, ◌++◌, length, take, drop, max, Option, Result, Ok, Err, IfErr, IsTrue}
+use Rattle.std.proofs.Common.{MatchResult, refl, sym, ◌∙◌, ap}
 use Rattle.std.proofs.Common.{subst, inl, inr, arith, ◌+◌, length-take, take-append-drop, append_assoc, append-nil, length-append}
 use Rattle.std.proofs.lemmas.List.{length-map}
 use Rattle.httparse.specs.Grammar.{RequestHead, print_request, NeverHasRequest}
@@ -12,12 +13,16 @@ use Rattle.http_messages.specs.declared.ask.Ask.{Ask}
 use Rattle.http_messages.specs.declared.fault.FetchFault.{FetchFault}
 use Rattle.http_messages.specs.declared.fault.FetchFault.TheVariants.{Io, EndOfInput, BadHead, HeadTooLong, BadTarget, MethodNotServed, Credentials, BadBody}
 use Rattle.http_messages.specs.declared.fault.FetchFault.TheVariants.{BodyTooLong, TooManyTurns, NoMemory}
+use Rattle.url_key.specs.declared.fault.KeyFault.{KeyFault}
+use Rattle.url_key.specs.declared.fault.KeyFault.TheVariants.{TooLong, NotVisibleAscii, Fragment, NotUri, NotHttp, UserInfo, NoHost, BadPort}
+use Rattle.url_key.specs.declared.fault.KeyFault.TheVariants as key_fault
+use Rattle.http_reading.specs.Version.{is_in_target}
 use Rattle.http_reading.specs.Fields.{fields_of}
 use Rattle.std.specs.Io.KnownBytes.{IsAtEnd}
 use Rattle.http_intake.specs.Reading.{Held, nothing_held, Takes, calls_made, IsReadFault}
 use Rattle.http_intake.specs.Heads.{longest_head, longest_read, most_fields, head_window, IsLongRequest, IsOpenRequest, IsHeadFault}
 use Rattle.http_reading.specs.AskHead.{AskHead, parts_of, head_at, is_ask_fault, Says}
-use Rattle.http_reading.specs.Asks.{FrontSays, StopsInAsk, ReadsAsk}
+use Rattle.http_reading.specs.Asks.{FrontSays, fault_in, StopsInAsk, ReadsAsk}
 
 -- a head of these parts
 made : List ℕ → List ℕ → ℕ → List (List ℕ × List ℕ) → AskHead
@@ -65,15 +70,22 @@ front_says octets headers r outcome room (h, is) says =
       },
     )
 
+-- a head that is too long, by whether its octets end in the target
+long_stops : (reader : Option (List ℕ)) (held : Held) (in_target : Bool) → is_in_target (head_window 0 held.octets) ≡ in_target
+    → IsLongRequest (head_window 0 held.octets) → StopsInAsk reader held (if in_target then BadTarget TooLong else HeadTooLong)
+long_stops reader held true ends long = inl (record { long = long; ends = ends })
+long_stops reader held false ends long = record { long = long; ends = ends }
+
 -- the fault of reading a head, by its kind
 pub head_stops : (reader : Option (List ℕ)) (held : Held) (fault : FetchFault) → IsHeadFault fault
     → (fault ≡ BadHead → NeverHasRequest (head_window 0 held.octets)) → (fault ≡ HeadTooLong → IsLongRequest (head_window 0 held.octets))
     → (IsReadFault fault → IsOpenRequest held.octets) → (fault ≡ EndOfInput → IsAtEnd reader) → (fault ≡ TooManyTurns → held.calls ≡ 70000) →
-    StopsInAsk reader held fault
+    StopsInAsk reader held (fault_in (head_window 0 held.octets) fault)
 head_stops reader held Io kind bad long opened ended spent = opened refl
 head_stops reader held EndOfInput kind bad long opened ended spent = (opened refl, ended refl)
 head_stops reader held BadHead kind bad long opened ended spent = inl (bad refl)
-head_stops reader held HeadTooLong kind bad long opened ended spent = long refl
+head_stops reader held HeadTooLong kind bad long opened ended spent =
+    long_stops reader held (is_in_target (head_window 0 held.octets)) refl (long refl)
 head_stops reader held (BadTarget f) kind bad long opened ended spent = absurd cc
 head_stops reader held MethodNotServed kind bad long opened ended spent = absurd cc
 head_stops reader held Credentials kind bad long opened ended spent = absurd cc
@@ -82,11 +94,41 @@ head_stops reader held BodyTooLong kind bad long opened ended spent = absurd cc
 head_stops reader held TooManyTurns kind bad long opened ended spent = (opened refl, spent refl)
 head_stops reader held NoMemory kind bad long opened ended spent = tt
 
+-- it is told without one more call
+long_made : (in_target : Bool) (calls : ℕ) → calls_made (if in_target then BadTarget TooLong else HeadTooLong) calls ≡ calls
+long_made true calls = refl
+long_made false calls = refl
+
+pub fault_made : (window : List ℕ) (fault : FetchFault) (calls : ℕ) → calls_made fault calls ≤ 70000 → calls_made (fault_in window fault) calls ≤ 70000
+fault_made window HeadTooLong calls few = let same = long_made (is_in_target window) calls in omega (arith, same, few)
+fault_made window Io calls few = few
+fault_made window EndOfInput calls few = few
+fault_made window BadHead calls few = few
+fault_made window (BadTarget f) calls few = few
+fault_made window MethodNotServed calls few = few
+fault_made window Credentials calls few = few
+fault_made window BadBody calls few = few
+fault_made window BodyTooLong calls few = few
+fault_made window TooManyTurns calls few = few
+fault_made window NoMemory calls few = few
+
+-- the fault of a target that a whole head has
+target_stops : (reader : Option (List ℕ)) (held : Held) (f : KeyFault) → FrontSays held.octets (Err (BadTarget f)) → StopsInAsk reader held (BadTarget f)
+target_stops reader held TooLong front = inr front
+target_stops reader held NotVisibleAscii front = front
+target_stops reader held Fragment front = front
+target_stops reader held NotUri front = front
+target_stops reader held NotHttp front = front
+target_stops reader held UserInfo front = front
+target_stops reader held NoHost front = front
+target_stops reader held BadPort front = front
+target_stops reader held key_fault.NoMemory front = front
+
 -- the fault that a whole head has
 says_stops : (reader : Option (List ℕ)) (held : Held) (fault : FetchFault) → IsTrue (is_ask_fault fault) → FrontSays held.octets (Err fault) →
     StopsInAsk reader held fault
 says_stops reader held BadHead kind front = inr front
-says_stops reader held (BadTarget f) kind front = front
+says_stops reader held (BadTarget f) kind front = target_stops reader held f front
 says_stops reader held MethodNotServed kind front = front
 says_stops reader held Credentials kind front = front
 says_stops reader held BadBody kind front = front

@@ -8,14 +8,15 @@ use Rattle.std.specs.Char.{to_ascii_lowercase}
 use Rattle.std.proofs.lemmas.Bool.{leb-true, and_parts, and_from, not_from_false, cond-true, cond-false}
 use Rattle.std.proofs.lemmas.List.{length-map, length-reverse, get_or-map, get_or-reverse, reverse-append, reverse-reverse}
 use Rattle.std.proofs.lemmas.List.Sums.{sum_by-cons}
-use Rattle.httparse.specs.Grammar.{Field, IsField, lf, is_ows, skip_ows, trim_ows, field_value}
+use Rattle.httparse.specs.Grammar.{Field, IsField, lf, is_ows, skip_ows, trim_ows}
 use Rattle.httparse.specs.Grammar as grammar
 use Rattle.httparse.specs.Spans.{name_and_value}
 use Rattle.httparse.proofs.TrimLemmas.{AllPass-trim_ows}
 use Rattle.http_header.specs.Token as token
 use Rattle.http_header.specs.FieldName.{IsFieldName}
 use Rattle.http_messages.specs.Field.{is_trimmed, line_length, lines_length, are_few_fields}
-use Rattle.http_reading.specs.Kept.{is_kept, kept_text, kept_by, kept, options_of, CanBeHeld, CanBeKept}
+use Rattle.http_reading.specs.Kept.{is_kept, kept_text, kept_by, kept, hides_judging, options_of, CanBeHeld, CanBeKept}
+use Rattle.http_reading.proofs.Keeping.{behind_marks}
 
 -- ---- a trimmed value has no blank at an end
 
@@ -113,9 +114,10 @@ CanBeKept-head head fields are same few k d inside is =
     let within : k < length head = omega (arith, ap length same, length-map head name_and_value) in
     let lines = line_within (options_of fields) fields k d inside is in
     let short = leb-true (lines_length (kept fields)) 16000 (and_parts _ _ few).1 in
+    let behind = behind_marks (hides_judging (options_of fields)) (kept_by (options_of fields) fields) in
     let f = get_or head k (record { name = []; raw = []; end = lf }) in
     let here : get_or fields k d ≡ name_and_value f =
     ap (λ (fs : List (List ℕ × List ℕ)). get_or fs k d) same ∙ get_or-map name_and_value head k (record { name = []; raw = []; end = lf }) d within in
     let name : length f.name ≤ 65535 =
-    omega (arith, lines, short, length-map f.name to_ascii_lowercase, ap (λ (p : List ℕ × List ℕ). line_length (kept_text p)) here) in
+    omega (arith, lines, short, behind, length-map f.name to_ascii_lowercase, ap (λ (p : List ℕ × List ℕ). line_length (kept_text p)) here) in
     subst CanBeHeld (sym here) (field_holds f (are k (record { name = []; raw = []; end = lf }) within) name)

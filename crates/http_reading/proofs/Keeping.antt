@@ -1,17 +1,20 @@
 -- Fields are kept one at a time while there is room: those kept so far and those still to be kept
 -- are, in order, the kept fields of the head, and each can stand in a response.
-use Rattle.std.proofs.Common.{◌≡◌, ℕ, ◌+◌, ◌<◌, Bool, true, false, not, ◌&&◌, leb, List, [], ◌∷◌, ◌++◌, length, map, drop, get_or, refl, ap, subst, ◌∙◌, arith}
+use Rattle.std.proofs.Common.{◌≡◌, ℕ, ◌+◌, ◌<◌, ◌≤◌, Bool, true, false, cond, not, ◌&&◌, leb, List, [], ◌∷◌, ◌++◌, length, map, drop, get_or, refl, ap, subst}
+use Rattle.std.proofs.Common.{◌∙◌, arith}
 use Rattle.std.specs.List.{list_all}
 use Rattle.std.proofs.lemmas.Bool.{and_from, and_parts, cond-true, cond-false}
 use Rattle.std.proofs.lemmas.List.{at_drop_more, map-append, append_assoc, length-map, get_or-map}
 use Rattle.std.proofs.lemmas.List.Folds.{list_all-append}
+use Rattle.std.proofs.lemmas.List.Sums.{sum_by-cons}
+use Rattle.std.proofs.lemmas.Bool.Decides.{nat_tests}
 use Rattle.httparse.specs.declared.spans.HeaderSpan.{HeaderSpan}
 use Rattle.httparse.specs.Spans.{header_bytes}
 use Rattle.http_header.specs.Token.{lowercase}
 use Rattle.http_messages.specs.declared.fields.Field.{Field}
-use Rattle.http_messages.specs.Field.{FieldText, field_text, lines_length, is_dropped_name, is_trimmed, is_kept_field}
+use Rattle.http_messages.specs.Field.{FieldText, field_text, line_length, lines_length, are_few_fields, is_dropped_name, is_trimmed, is_kept_field}
 use Rattle.http_reading.specs.Fields.{fields_of}
-use Rattle.http_reading.specs.Kept.{is_kept, kept_text, kept_by, options_of, CanBeHeld, CanBeKept}
+use Rattle.http_reading.specs.Kept.{is_kept, kept_text, kept_by, no_store, options_of, CanBeHeld, CanBeKept}
 
 -- the kept fields from this place on
 abbrev pub kept_from : List (List ℕ) → List ℕ → List HeaderSpan → ℕ → List FieldText
@@ -70,3 +73,18 @@ pub may_stand : (options : List (List ℕ)) (pair : List ℕ × List ℕ) (text 
 may_stand options pair text is kept trimmed =
     let parts = and_parts (not (is_dropped_name (lowercase pair.0))) _ kept in
     ap is_kept_field is ∙ and_from _ _ parts.0 trimmed
+
+-- ---- what stands before the kept fields
+
+-- the room behind it
+pub marks_room : (marked : Bool) (rest : List FieldText) →
+    have_room (cond marked 55 56) (cond marked 15975 16000) rest ≡ are_few_fields (cond marked (no_store ∷ []) [] ++ rest)
+marks_room false rest = refl
+marks_room true rest =
+    let lines = sum_by-cons line_length no_store rest in
+    rw lines (grind (arith, nat_tests))
+
+-- it is as short as all
+pub behind_marks : (marked : Bool) (rest : List FieldText) → lines_length rest ≤ lines_length (cond marked (no_store ∷ []) [] ++ rest)
+behind_marks false rest = omega arith
+behind_marks true rest = let lines = sum_by-cons line_length no_store rest in omega (arith, lines)

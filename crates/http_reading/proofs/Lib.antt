@@ -1,6 +1,7 @@
 -- Of fields: read `Named` (fields of one name), then `Keeping` (the loop of `kept_fields`) and
--- `HeadFields` (no `BadHead` for a head of the grammar); `Digits` is about numbers.
+-- `HeadFields` (no `BadHead` for a head of the grammar); `Digits` is about numbers, `Octets` about URIs.
 pub mod Digits
+pub mod Octets
 pub mod Named
 pub mod Keeping
 pub mod HeadFields

@@ -15,6 +15,10 @@ use Rattle.http_intake.specs.Trailer.{HoldsChunkedBody, StopsInChunkedBody}
 use Rattle.http_intake.specs.Bodies.{StopsBefore, StopsBeforeEnd}
 use Rattle.http_reading.specs.AnswerHead.{parts_of, is_interim, ToldText, told}
 
+-- the most octets that interim heads have together
+abbrev pub most_interim : ℕ
+most_interim = 65536
+
 -- a head within its limits
 pub record IsShortHead (h : ResponseHead) : Type 0 where
   pub valid : IsResponseHead h
@@ -35,6 +39,7 @@ pub record PassesInterim (octets : List ℕ) (start : ℕ) : Type 0 where
 -- interim heads, then a final head from `start` to `end`, which says this or has this fault
 pub record HeadSays (octets : List ℕ) (start end : ℕ) (outcome : Result ToldText FetchFault) : Type 0 where
   pub interim : PassesInterim octets start
+  pub few : start ≤ most_interim
   pub head : ResponseHead
   -- it is no interim head, so no other one follows it
   pub final : is_interim (status_code head) ≡ false
@@ -110,14 +115,15 @@ pub record ReadsRest (told : ToldText) (reader_old reader_new : Option (List ℕ
       × EndsWithInput told.framing reader_new held.calls × (answer ≡ answer_of told answer.body))
       (λ fault. (fault ≡ NoMemory) ⊎ StopsInBody told.framing reader_new held start fault)
 
--- why reading stopped in a response: at a head, by what a head says, in the body, or for want of
--- memory
+-- why reading stopped in a response: at a head, by what a head says, in the body, since the interim
+-- heads have too many octets, or for want of memory
 abbrev pub StopsInAnswer : Option (List ℕ) → Held → FetchFault → Type 0
 StopsInAnswer reader held fault =
-    ((start : ℕ) × PassesInterim held.octets start × StopsAtHead reader held start fault)
+    ((start : ℕ) × PassesInterim held.octets start × (start ≤ most_interim) × StopsAtHead reader held start fault)
     ⊎ ((start : ℕ) × (end : ℕ) × HeadSays held.octets start end (Err fault))
     ⊎ ((start : ℕ) × (end : ℕ) × (t : ToldText) × HeadSays held.octets start end (Ok t)
     × StopsInBody t.framing reader held end fault)
+    ⊎ ((start : ℕ) × PassesInterim held.octets start × (most_interim < start) × (fault ≡ HeadTooLong))
     ⊎ (fault ≡ NoMemory)
 
 -- the octets read grew by what was taken, by 70,000 calls at most; they begin with the response, or

@@ -22,7 +22,7 @@ host_told [] = absent
 host_told (value ∷ []) = one value
 host_told (value ∷ other ∷ others) = several
 
--- what the `host` fields say (RFC 9112, section 3.2)
+-- what the `host` fields say (RFC 9112, section 3.2); `AskHead` judges the value
 abbrev pub host : List (List ℕ × List ℕ) → HostText
 host fields = host_told (values_named (codes "host") fields)
 

@@ -8,6 +8,7 @@ use Rattle.httparse.specs.declared.spans.RequestSpans.{RequestSpans}
 use Rattle.httparse.specs.Spans.{name_and_value, span_bytes}
 use Rattle.http_reading.specs.Fields.{fields_of}
 use Rattle.url_key.specs.declared.fault.KeyFault.{KeyFault}
+use Rattle.url_key.specs.declared.fault.KeyFault.TheVariants.{NotUri}
 use Rattle.url_key.specs.Key.{HasKey}
 use Rattle.http_messages.specs.declared.ask.Ask.{Ask}
 use Rattle.http_messages.specs.declared.fault.FetchFault.{FetchFault}
@@ -15,6 +16,7 @@ use Rattle.http_messages.specs.declared.fault.FetchFault.TheVariants.{BadHead, B
 use Rattle.http_reading.specs.AskFields.{HostText, absent, several, one, host, has_credentials, member}
 use Rattle.http_reading.specs.Directives.{only_if_cached, no_cache}
 use Rattle.http_reading.specs.Framing.{ask_has_body}
+use Rattle.http_reading.specs.Uri.{is_authority, is_uri_key}
 
 -- the parts of a request's head: method, target, minor version, and fields as a list of names and
 -- values
@@ -33,11 +35,11 @@ abbrev pub is_origin_form : List ℕ → Bool
 is_origin_form [] = false
 is_origin_form (octet ∷ text) = octet == 47
 
--- the `host` fields that a request may have: one, or none in HTTP/1.0 where the target is not a
--- path (RFC 9112, section 3.2)
+-- the `host` fields that a request may have: one that is an authority, or none in HTTP/1.0 where the
+-- target is not a path (RFC 9112, section 3.2)
 abbrev pub may_have : HostText → ℕ → List ℕ → Bool
 may_have absent minor target = (minor == 0) && not (is_origin_form target)
-may_have (one value) minor target = true
+may_have (one value) minor target = is_authority value
 may_have several minor target = false
 
 -- the value of a single `host` field, else the empty text
@@ -81,10 +83,10 @@ ask_for fields key =
           member fields;
     })
 
--- the same, or the fault of the target
+-- the same, or the fault of the target: it has no key, or one that is no URI's (RFC 9112, section 3.2)
 abbrev pub asked : List (List ℕ × List ℕ) → Result (List ℕ) KeyFault → Result Ask FetchFault
 asked fields (Err fault) = Err (BadTarget fault)
-asked fields (Ok key) = ask_for fields key
+asked fields (Ok key) = if is_uri_key key then ask_for fields key else Err (BadTarget NotUri)
 
 -- what the head says, given the fault that comes before the target
 abbrev pub SaysBy : Option FetchFault → AskHead → Result Ask FetchFault → Type 0

@@ -1,5 +1,5 @@
 -- The fields that a response keeps of those that were read (RFC 9110, sections 5.1, 5.5 and 7.6.1).
-use Rattle.std.specs.Prelude.{◌≡◌, ℕ, ◌⊎◌, Bool, not, ◌&&◌, ◌==◌, IsTrue, List, map, filter, All, codes}
+use Rattle.std.specs.Prelude.{◌≡◌, ℕ, ◌⊎◌, Bool, not, ◌&&◌, ◌==◌, IsTrue, List, [], ◌∷◌, ◌++◌, map, filter, All, codes, if◌then◌else◌}
 use Rattle.std.specs.List.{list_any, slice_split}
 use Rattle.std.specs.Str.{str_eq_ignore_ascii_case}
 use Rattle.http_lists.specs.Members.{comma}
@@ -33,6 +33,24 @@ is_kept options field = not (is_dropped_name (lowercase field.0)) && not (is_of_
 abbrev pub kept_text : List ℕ × List ℕ → FieldText
 kept_text field = record { name = lowercase field.0; value = field.1 }
 
+-- the fields by which storing is judged (RFC 9111, section 3)
+abbrev pub judging_names : List (List ℕ)
+judging_names = codes "cache-control" ∷ codes "expires" ∷ codes "vary" ∷ []
+
+-- One of these `connection` values names a field by which storing is judged, as no sender may do (RFC
+-- 9110, section 7.6.1). It is not kept, so what it says of storing would be lost.
+abbrev pub hides_judging : List (List ℕ) → Bool
+hides_judging options = list_any (is_of_connection options) judging_names
+
+-- the field that forbids every cache to store the response (RFC 9111, section 5.2.2.5)
+abbrev pub no_store : FieldText
+no_store = record { name = codes "cache-control"; value = codes "no-store" }
+
+-- what stands before the kept fields: `no-store`, where a field by which storing is judged is not kept
+-- [Response 5]
+abbrev pub marks_by : List (List ℕ) → List FieldText
+marks_by options = if hides_judging options then no_store ∷ [] else []
+
 -- the kept fields, given the values of the `connection` fields
 abbrev pub kept_by : List (List ℕ) → List (List ℕ × List ℕ) → List FieldText
 kept_by options fields = map kept_text (filter (is_kept options) fields)
@@ -41,9 +59,9 @@ kept_by options fields = map kept_text (filter (is_kept options) fields)
 abbrev pub options_of : List (List ℕ × List ℕ) → List (List ℕ)
 options_of fields = values_named (codes "connection") fields
 
--- the fields that a response keeps, in order
+-- the fields that a response has: perhaps `no-store`, then those that it keeps, in order
 abbrev pub kept : List (List ℕ × List ℕ) → List FieldText
-kept fields = kept_by (options_of fields) fields
+kept fields = marks_by (options_of fields) ++ kept_by (options_of fields) fields
 
 -- a response can hold the field: its name is a token of at most 65,535 octets, and its value has
 -- no control octet but the tab and no blank at an end (RFC 9110, sections 5.1 and 5.5) [Response 4]

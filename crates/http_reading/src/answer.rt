@@ -7,6 +7,7 @@ ghost use Rattle.http_intake.specs.Heads.{head_window, most_fields};
 ghost use Rattle.http_reading.specs.AnswerHead as head_rules;
 ghost use Rattle.http_reading.specs.AnswerHead.{told_text, is_fit};
 ghost use Rattle.http_reading.specs.Answers.{PassesInterim, ReadsAnswer, ReadsOn, ReadsRest};
+ghost use Rattle.http_reading.specs.Answers.{most_interim};
 ghost use Rattle.http_reading.specs.Answers.{answer_of as answer_text_of};
 
 use crate::body::read_body;
@@ -17,13 +18,18 @@ use httparse::spans::{EMPTY_HEADER_SPAN, HeaderSpan, ResponseSpans};
 use std::alloc::Global;
 use std::io::Read;
 
+/// The most octets that interim heads have together.
+const MOST_INTERIM: usize = 65_536;
+
 /// Reads a final response (RFC 9112, sections 4 to 7), and passes over interim ones (RFC 9110,
-/// section 15.2). Octets after it may be taken from the reader too, and are lost.
+/// section 15.2), 65,536 octets of them at most. Octets after it may be taken from the reader too,
+/// and are lost.
 ///
 /// Faults while a head is read:
 ///
 /// - `BadHead`: no octets that follow can make it a head;
-/// - `HeadTooLong`: it has more than 16,384 octets or 64 fields;
+/// - `HeadTooLong`: it has more than 16,384 octets or 64 fields, or the interim heads have more
+///   than 65,536 octets together;
 /// - `EndOfInput`: the input ended first;
 /// - `TooManyTurns`: 70,000 calls of the reader, the most that are made, gave octets, and not the
 ///   whole message;
@@ -36,7 +42,8 @@ use std::io::Read;
 /// - `HeadTooLong`: more than 56 fields are kept, or their lines have more than 16,000 octets
 ///   together;
 /// - `BadBody` or `BodyTooLong`: the fields give no valid length of the body, or one over 65,536
-///   octets. With status 204 or 304 there is no body, whatever the fields say.
+///   octets; or a response of HTTP/1.0 names a transfer coding. With status 204 or 304 there is no
+///   body, whatever the fields say.
 ///
 /// Then come the faults of reading the body: `BadBody`, `BodyTooLong`, `HeadTooLong` (of a
 /// trailer), and those of the reader. `NoMemory` may come at any point.
@@ -48,7 +55,12 @@ pub fn read_answer<R: Read>(alloc: Global, reader: &mut R) -> Result<Answer, Fet
     let mut start = 0;
     'heads: loop {
         match intake.read_response_head(reader, start, headers.as_mut_slice()) {
-            Ok(head) if is_interim(head.code) => start += head.len,
+            Ok(head) if is_interim(head.code) => {
+                start += head.len;
+                if start > MOST_INTERIM {
+                    return Err(FetchFault::HeadTooLong);
+                }
+            }
             Ok(head) => return read_final(alloc, reader, intake, start, head, headers.as_slice()),
             Err(fault) => return Err(fault),
         }
@@ -70,6 +82,7 @@ fn read_final<R: Read>(
     requires inside { start + head.len ≤ length intake.octets }
     requires last { head_rules.is_interim head.code ≡ false }
     requires room { length headers.now ≡ most_fields }
+    requires few { start ≤ most_interim }
     ensures { PassesInterim intake.octets start →
         ReadsOn (R.remaining reader.old) (R.remaining reader.new) intake result }
 {

@@ -5,8 +5,10 @@ ghost use Rattle.httparse.specs.Spans.{IsRequestWithin};
 ghost use Rattle.http_reading.specs.AskFields.{host_text};
 ghost use Rattle.http_reading.specs.AskHead as head_rules;
 ghost use Rattle.http_reading.specs.AskHead.{KeyOf, head_at, url_by};
-ghost use Rattle.http_reading.specs.Asks.{ReadsAsk};
+ghost use Rattle.http_reading.specs.Asks.{ReadsAsk, fault_in as fault_told};
 
+use crate::uri::{is_authority, is_uri_key};
+use crate::version::is_in_target;
 use crate::{Host, ask_has_body, has_credentials, host_of, is_no_cache, is_only_if_cached, member};
 use http_intake::Intake;
 use http_messages::{Ask, FetchFault, MOST_FIELDS};
@@ -21,7 +23,8 @@ use url_key::{Key, KeyFault};
 /// Faults while the head is read:
 ///
 /// - `BadHead`: no octets that follow can make it a head;
-/// - `HeadTooLong`: it has more than 16,384 octets or 64 fields;
+/// - `BadTarget`: its first 16,384 octets end in the target;
+/// - `HeadTooLong`: it has more than 16,384 octets or 64 fields otherwise;
 /// - `EndOfInput`: the input ended first;
 /// - `TooManyTurns`: 70,000 calls of the reader, the most that are made, gave octets, and not the
 ///   whole head;
@@ -30,11 +33,11 @@ use url_key::{Key, KeyFault};
 ///
 /// Faults of a whole head, in this order:
 ///
-/// - `BadHead`: there are several `host` fields, or none in an HTTP/1.1 request or with a path as
-///   target (RFC 9112, section 3.2);
+/// - `BadHead`: there are several `host` fields, one that is no authority, or none in an HTTP/1.1
+///   request or with a path as target (RFC 9112, section 3.2);
 /// - `MethodNotServed`: the method is not GET;
-/// - `BadTarget`: the URL has no key; the URL is a path at its host, or any other target as it
-///   stands (section 3.3);
+/// - `BadTarget`: the URL has no key, or one with octets that no URI has; the URL is a path at its
+///   host, or any other target as it stands (section 3.3);
 /// - `Credentials`: there is an `authorization` or a `proxy-authorization` field;
 /// - `BadBody`: there is a `transfer-encoding` field, or a `content-length` field that is not 0.
 ///
@@ -46,7 +49,20 @@ pub fn read_ask<R: Read>(alloc: Global, reader: &mut R) -> Result<Ask, FetchFaul
     let mut headers = [EMPTY_HEADER_SPAN; MOST_FIELDS];
     match intake.read_request_head(reader, 0, headers.as_mut_slice()) {
         Ok(head) => judge(alloc, intake.window(0), head, headers.as_slice()),
-        Err(fault) => Err(fault),
+        Err(fault) => Err(fault_in(intake.window(0), fault)),
+    }
+}
+
+/// The fault of a head that did not come: `BadTarget` where the limit of a head lies in its target
+/// (RFC 9112, section 3).
+fn fault_in(window: &[u8], fault: FetchFault) -> FetchFault
+    ensures { result ≡ fault_told window.now fault }
+{
+    match fault {
+        FetchFault::HeadTooLong if is_in_target(window) => {
+            FetchFault::BadTarget(KeyFault::TooLong)
+        }
+        fault => fault,
     }
 }
 
@@ -74,6 +90,9 @@ fn judge(
         return Err(FetchFault::MethodNotServed);
     }
     let key = key_of(alloc, host, target)?;
+    if !is_uri_key(&key) {
+        return Err(FetchFault::BadTarget(KeyFault::NotUri));
+    }
     if has_credentials(window, headers) {
         return Err(FetchFault::Credentials);
     }
@@ -88,14 +107,14 @@ fn judge(
     })
 }
 
-/// Whether a request of this version and target may have these `host` fields: one, or none in
-/// HTTP/1.0 where the target is not a path (RFC 9112, section 3.2).
+/// Whether a request of this version and target may have these `host` fields: one that is an
+/// authority, or none in HTTP/1.0 where the target is not a path (RFC 9112, section 3.2).
 fn may_have(host: Host<'_>, minor: u8, target: &[u8]) -> bool
     ensures { result ≡ head_rules.may_have (host_text host.entry) minor target.now }
 {
     match host {
         Host::Absent => minor == 0 && !is_origin_form(target),
-        Host::One(_) => true,
+        Host::One(value) => is_authority(value),
         Host::Several => false,
     }
 }

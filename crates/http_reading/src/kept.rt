@@ -2,6 +2,7 @@
 
 ghost use Rattle.std.specs.Prelude.{◌≡◌, ◌-◌, ◌≤◌, ◌↔◌, ◌⊎◌, ◌&&◌, false, length, map, List, All};
 ghost use Rattle.std.specs.Prelude.{IsTrue, IfOk, IfErr, IsErrOf, SomeIff, bytes_eq, take, drop};
+ghost use Rattle.std.specs.Prelude.{if◌then◌else◌};
 ghost use Rattle.std.specs.List.{list_all, list_any};
 ghost use Rattle.httparse.specs.Grammar as grammar;
 ghost use Rattle.httparse.specs.Spans.{header_bytes, name_and_value};
@@ -25,7 +26,13 @@ use std::alloc::{AllocError, Global};
 /// The most octets that the lines of the kept fields have together.
 const MOST_OCTETS: usize = 16_000;
 
+/// The octets of the line `cache-control: no-store`.
+const NO_STORE_LINE: usize = 25;
+
 /// The fields that a response keeps, in order, with their names in lower case.
+///
+/// Where a `connection` field names `cache-control`, `expires` or `vary`, by which storing is
+/// judged (RFC 9111, section 3), `cache-control: no-store` stands before them.
 ///
 /// It drops the fields that concern one connection: `connection`, those that a `connection` field
 /// names (ignoring case, between commas, with blanks around them), `keep-alive`,
@@ -63,7 +70,7 @@ pub fn kept_fields(
     if !are_few_kept(window, headers) {
         return Err(FetchFault::HeadTooLong);
     }
-    let mut fields = Vec::new(alloc);
+    let mut fields = marks(alloc, window, headers)?;
     for header in headers {
         if is_kept(window, headers, header) {
             let field = field_at(alloc, window, header)?;
@@ -73,14 +80,46 @@ pub fn kept_fields(
     Ok(fields)
 }
 
+/// What stands before the kept fields: `no-store`, where a field by which storing is judged is not
+/// kept.
+fn marks(alloc: Global, window: &[u8], headers: &[HeaderSpan]) -> Result<Vec<Field>, AllocError>
+    ensures marks { IfOk result (λ made. map field_text made.items
+        ≡ spec.marks_by (spec.options_of (fields_of window.now headers.now))) }
+    ensures held { IfOk result (λ made.
+        IsTrue (list_all is_kept_field (map field_text made.items))) }
+{
+    let mut marks = Vec::new(alloc);
+    if hides_judging(window, headers) {
+        marks.push(no_store())?;
+    }
+    Ok(marks)
+}
+
+/// Whether a `connection` field names a field by which storing is judged.
+fn hides_judging(window: &[u8], headers: &[HeaderSpan]) -> bool
+    ensures { result
+        ≡ spec.hides_judging (spec.options_of (fields_of window.now headers.now)) }
+{
+    is_of_connection(window, headers, b"cache-control")
+        || is_of_connection(window, headers, b"expires")
+        || is_of_connection(window, headers, b"vary")
+}
+
+/// The field `cache-control: no-store`.
+fn no_store() -> Field
+    ensures { field_text result ≡ spec.no_store }
+{
+    Field {
+        name: HeaderName::from_static("cache-control"),
+        value: HeaderValue::from_static("no-store"),
+    }
+}
+
 /// Whether at most 56 fields are kept, with at most 16,000 octets in their lines.
 fn are_few_kept(window: &[u8], headers: &[HeaderSpan]) -> bool
     ensures { result ≡ are_few_fields (spec.kept (fields_of window.now headers.now)) }
 {
-    let mut room = Room {
-        fields: MOST_KEPT_FIELDS,
-        octets: MOST_OCTETS,
-    };
+    let mut room = Room::behind_marks(window, headers);
     for header in headers {
         if is_kept(window, headers, header) {
             match room.after(window, header) {
@@ -102,6 +141,26 @@ struct Room {
 }
 
 impl Room {
+    /// The room for kept fields behind what stands before them.
+    fn behind_marks(window: &[u8], headers: &[HeaderSpan]) -> Room
+        ensures fields { result.fields ≡ (if spec.hides_judging (spec.options_of
+            (fields_of window.now headers.now)) then 55 else 56) }
+        ensures octets { result.octets ≡ (if spec.hides_judging (spec.options_of
+            (fields_of window.now headers.now)) then 15975 else 16000) }
+    {
+        if hides_judging(window, headers) {
+            Room {
+                fields: MOST_KEPT_FIELDS - 1,
+                octets: MOST_OCTETS - NO_STORE_LINE,
+            }
+        } else {
+            Room {
+                fields: MOST_KEPT_FIELDS,
+                octets: MOST_OCTETS,
+            }
+        }
+    }
+
     /// The room after one more field. `None`: the field does not fit.
     fn after(self, window: &[u8], header: &HeaderSpan) -> Option<Room>
         ensures { let line = line_length (spec.kept_text (header_bytes window.now header.now))

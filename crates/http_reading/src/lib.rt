@@ -3,6 +3,8 @@
 //! RFC 9112, sections 3.2 and 6). The octets come by `http_intake`.
 //!
 //! - [`read_ask`] reads a request: a head, and no body (`src/ask.rt`).
+//! - [`lower_version`] has a request of HTTP/1.2 to HTTP/1.9 be read as one of HTTP/1.1
+//!   (`src/version.rt`).
 //! - [`read_answer`] reads a response: it passes over interim heads, then reads a final head and
 //!   its body (`src/answer.rt`, `src/told.rt`: what a head says, `src/body.rt`).
 //!
@@ -31,8 +33,8 @@
 //!
 //! Their contracts are rules over one list, the names and values of the fields (`fields_of` of
 //! `specs/Fields`); other files of `specs/` have the rules, under the names of the files of `src/`.
-//! `specs/Decimal` says how numbers are written, and `specs/Left` what contracts see of the
-//! iterator over the values of a name.
+//! `specs/Uri` says which octets a URI has (`src/uri.rt`), `specs/Decimal` how numbers are written,
+//! and `specs/Left` what contracts see of the iterator over the values of a name.
 //!
 //! Read first `specs/Fields`, `specs/Framing` and `specs/Kept`; then `specs/Asks` with
 //! `specs/AskHead` and `src/ask.rt`, and `specs/Answers` with `specs/AnswerHead` and
@@ -56,6 +58,8 @@ mod fields;
 mod framing;
 mod kept;
 mod told;
+mod uri;
+mod version;
 
 pub use answer::read_answer;
 pub use answer_fields::{age, stamp};
@@ -67,3 +71,4 @@ pub use framing::{
     BadCoding, BadLength, Framing, ask_has_body, content_length, framing_of, is_chunked,
 };
 pub use kept::kept_fields;
+pub use version::lower_version;

@@ -5,7 +5,7 @@ ghost use Rattle.http_reading.specs.Fields.{fields_of};
 ghost use Rattle.http_reading.specs.AnswerHead as head_rules;
 ghost use Rattle.http_reading.specs.AnswerHead.{head_at, told_text};
 
-use crate::{Framing, age, framing_of, kept_fields, stamp};
+use crate::{Framing, age, count_named, framing_of, kept_fields, stamp};
 use http_messages::{FetchFault, Field};
 use httparse::spans::{HeaderSpan, ResponseSpans};
 use std::alloc::Global;
@@ -51,7 +51,7 @@ pub(crate) fn tell(
         return Err(FetchFault::BadHead);
     }
     let fields = kept_fields(alloc, window, headers)?;
-    let framing = framing_by(head.code, window, headers)?;
+    let framing = framing_by(head.code, head.version, window, headers)?;
     Ok(Told {
         status: head.code,
         fields,
@@ -61,20 +61,32 @@ pub(crate) fn tell(
     })
 }
 
-/// Where the body of a response with this status ends. `None`: it has no body, as with 204 and 304
-/// (RFC 9112, section 6.3).
+/// Where the body of a response with this status and minor version ends. `None`: it has no body, as
+/// with 204 and 304 (RFC 9112, section 6.3).
 fn framing_by(
     status: u16,
+    minor: u8,
     window: &[u8],
     headers: &[HeaderSpan],
 ) -> Result<Option<Framing>, FetchFault>
-    ensures { result ≡ head_rules.framing_by status (fields_of window.now headers.now) }
+    ensures { result ≡ head_rules.framing_by status minor (fields_of window.now headers.now) }
 {
     if matches!(status, 204 | 304) {
         return Ok(None);
     }
-    match framing_of(window, headers) {
+    match framing_in(minor, window, headers) {
         Ok(framing) => Ok(Some(framing)),
         Err(fault) => Err(fault),
     }
+}
+
+/// Where the body of a response of this minor version ends. `BadBody` also: it is of HTTP/1.0, and
+/// names a transfer coding (RFC 9112, section 6.1).
+fn framing_in(minor: u8, window: &[u8], headers: &[HeaderSpan]) -> Result<Framing, FetchFault>
+    ensures { result ≡ head_rules.framing_in minor (fields_of window.now headers.now) }
+{
+    if minor == 0 && count_named(window, headers, b"transfer-encoding") > 0 {
+        return Err(FetchFault::BadBody);
+    }
+    framing_of(window, headers)
 }

@@ -30,4 +30,5 @@ key_lines form key = request_line (target form key) ++ field_line (codes "host")
 -- the text of a request that a cache with this name writes
 abbrev pub ask_text : AskForm → Ask → List ℕ → List ℕ
 ask_text form ask via =
-    key_lines form ask.key ++ (cache_control_line ask.only_if_cached ask.no_cache ++ (last_lines via ++ (number_line (codes "x-purge-member") ask.member ++ crlf)))
+    key_lines form ask.key
+    ++ (cache_control_line ask.only_if_cached ask.no_cache ++ (last_lines via ++ (number_line (codes "x-purge-member") ask.member ++ crlf)))

@@ -71,6 +71,7 @@ passes octets e =
       others = d.1;
     }
 
+-- the octets are their parts, cut at the offsets, and each part has passed its test
 pub spells_of : (octets : List ℕ) (message : Icp) → IsOctets octets → first_fault octets ≡ None → Holds octets message → Spells octets message
 spells_of octets message fits e holds =
     let tests = passes octets e in
@@ -113,6 +114,7 @@ pub record IsReadAs (octets : List ℕ) (message : Icp) : Type 0 where
   pub no_fault : first_fault octets ≡ None
   pub holds : Holds octets message
 
+-- each part is read where it is spelled, so each test passes and the fields are the message's
 pub read_of : (octets : List ℕ) (message : Icp) → Spells octets message → IsReadAs octets message
 unfolding first_fault
 read_of octets message spelled =

@@ -77,7 +77,10 @@ impl<S: FloorStore> Model for NodeBook<S> {
 
     ghost Value = { BookView S };
 
-    ghost coded = { Prim.hlevel (codes, map_code {R = slice_cmp nat_cmp} (coded_list coded_ℕ) coded_ℕ) };
+    ghost coded = { Prim.hlevel (
+      codes,
+      map_code {R = slice_cmp nat_cmp} (coded_list coded_ℕ) coded_ℕ,
+    ) };
 
     ghost view = { λ b. record {
       node = b.node;
@@ -86,7 +89,8 @@ impl<S: FloorStore> Model for NodeBook<S> {
       filed = b.filed;
     } };
 
-    ghost invariant = { λ b. IsBook b.node.roster b.node.id b.node.state b.opening b.entries.items b.filed };
+    ghost invariant = { λ b. IsBook b.node.roster b.node.id b.node.state b.opening b.entries.items
+        b.filed };
 }
 
 impl<S: FloorStore> NodeBook<S> {

@@ -1,11 +1,10 @@
 -- By the rules of a node a request is served at once, or waits for what begins with it: by the
 -- cases of `ask_comes`, each of which gives a reply of one of the two kinds or a fault.
-use Rattle.std.proofs.Common.{◌≡◌, inl, inr, ℕ, nat_le, Bool, true, false, cond, List, [], ◌∷◌, Option, Some, None, Result, Ok, Err, IfOk, refl, subst}
+use Rattle.std.proofs.Common.{◌≡◌, inl, inr, ℕ, Bool, true, false, cond, List, [], ◌∷◌, Option, Some, None, Result, Ok, Err, IfOk, refl, subst}
 use Rattle.http_messages.specs.declared.ask.Ask.{Ask}
 use Rattle.object_store.specs.declared.copy.WebCopy.{WebCopy}
 use Rattle.values_tables.specs.declared.plain.Peer.{Peer}
 use Rattle.peer_chooser.specs.Round.{RoundText}
-use Rattle.node_rules.specs.declared.state.Pending.{Pending}
 use Rattle.node_rules.specs.declared.state.NodeState.{NodeState}
 use Rattle.node_rules.specs.declared.event.Event.{Event}
 use Rattle.node_rules.specs.declared.event.Event.TheVariants as event
@@ -14,10 +13,10 @@ use Rattle.node_rules.specs.declared.reply.Served.TheVariants.{Status}
 use Rattle.node_rules.specs.declared.reply.Begin.{Begin}
 use Rattle.node_rules.specs.declared.reply.Reply.{Reply}
 use Rattle.node_rules.specs.declared.reply.StepFault.{StepFault}
-use Rattle.node_rules.specs.declared.reply.StepFault.TheVariants.{Busy}
-use Rattle.node_rules.specs.State.{Setting, Stepped, replies, refuses, serving}
+use Rattle.node_rules.specs.State.{Setting, Stepped, replies, serving}
 use Rattle.node_rules.specs.Known.{has_origin}
 use Rattle.node_rules.specs.Asks.{is_cached_only, begin_round, begin_with_read, ask_around, begin_ask, begin_if_free, not_held, by_copy, ask_comes}
+use Rattle.node_rules.specs.Asks.{ask_comes_to}
 use Rattle.node_rules.specs.Step.{open_step, step_if, step}
 use Rattle.node_rules.specs.Relation.{Steps}
 use Rattle.node_bytes.specs.Stepping.{AnswersAsker, AnswersAsk}
@@ -69,9 +68,15 @@ module _ {X : Type 0} (g : Setting) where
   by_copy_fits s asker ask now mark None = not_held_fits s asker ask now mark
   by_copy_fits s asker ask now mark (Some c) = serves asker _
 
+  ask_comes_to_fits : (s : NodeState X) (asker : Option ℕ) (ask : Ask) (now : ℕ) (mark : X) (outside : Bool) →
+      Answers asker (ask_comes_to g s asker ask now mark outside).outcome
+  unfolding ask_comes_to
+  ask_comes_to_fits s asker ask now mark true = serves asker (Status 503)
+  ask_comes_to_fits s asker ask now mark false = by_copy_fits s asker ask now mark _
+
   ask_comes_fits : (s : NodeState X) (asker : Option ℕ) (ask : Ask) (now : ℕ) (mark : X) → Answers asker (ask_comes g s asker ask now mark).outcome
   unfolding ask_comes
-  ask_comes_fits s asker ask now mark = by_copy_fits s asker ask now mark _
+  ask_comes_fits s asker ask now mark = ask_comes_to_fits s asker ask now mark _
 
   client_step : (s : NodeState X) (ask : Ask) (now : ℕ) (mark : X) (closed : Bool) → Answers None (step_if g s (event.Client ask now) mark closed).outcome
   unfolding step_if open_step

@@ -58,7 +58,8 @@ icp_read_back sent m octets is text fits small =
     ∙ icp_decoded (icp_text.written m) m (icp_written_spells m fits small)
     ∙ ap Some (sym is)
 
-pub htcp_read_back : (sent : Message) (m : Htcp) (octets : List ℕ) → sent ≡ message.Htcp m → octets ≡ htcp_text.written m → htcp_text.Fits m → m.trans < 2 ^ 32 →
+pub htcp_read_back : (sent : Message) (m : Htcp) (octets : List ℕ) → sent ≡ message.Htcp m → octets ≡ htcp_text.written m → htcp_text.Fits m
+    → m.trans < 2 ^ 32 →
     decoded_by (protocol_of sent) octets ≡ Some sent
 htcp_read_back sent m octets is text fits small =
     ap (λ (s : Message). decoded_by (protocol_of s) octets) is ∙ ap (decoded_by udp.Htcp) text

@@ -14,6 +14,7 @@
 //!
 //! - `specs/Bytes`: which octets and which message belong together, by either protocol
 //! - `specs/Turns`: what `on_datagram` does; `src/turns.rt`
+//! - `specs/Packets`: the datagrams of a turn; `src/packets.rt`
 //! - `specs/Nodes`: what a node promises of its step as a `Stepper`; `src/stepper.rt`
 //! - `specs/Stepping`: what a step makes of a request; `src/laws.rt` proves it of the rules
 //! - `specs/Calls`: the master's calls; `src/calls.rt`
@@ -28,12 +29,14 @@
 
 mod calls;
 pub mod laws;
+mod packets;
 mod reading;
 mod stepper;
 mod turns;
 mod writing;
 
 pub use calls::master_call_of;
+pub use packets::Packets;
 pub use reading::{event_of, read_htcp, read_icp};
 pub use stepper::Stepper;
 pub use turns::{Packet, Turn, on_datagram};

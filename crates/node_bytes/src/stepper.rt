@@ -23,7 +23,9 @@ pub trait Stepper {
 }
 
 impl<S: FloorStore> Stepper for Node<(), S> {
-    ghost takes = { λ before event outcome after. TakesStep (S.is_honest after.store) (S.may_find after.store) (HaveRisen (S.failed before.store) (S.failed after.store)) before event outcome after };
+    ghost takes = { λ before event outcome after. TakesStep (S.is_honest after.store)
+        (S.may_find after.store) (HaveRisen (S.failed before.store) (S.failed after.store))
+        before event outcome after };
 
     fn step(&mut self, event: Event<()>) -> Result<Reply<()>, StepFault> {
         Node::step(self, event, ())

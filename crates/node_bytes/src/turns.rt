@@ -2,9 +2,10 @@
 ghost use Rattle.std.specs.Prelude.{◌≡◌, IfOk, map};
 ghost use Rattle.node_bytes.specs.Turns.{packet_of, turn_of, idle, MeetsOctets};
 
+use crate::packets::Packets;
 use crate::{Stepper, event_of, octets_of};
 use node_rules::{Begin, Outgoing, Reply, Serve, StepFault};
-use roster::{Address, Listed, Udp};
+use roster::{Address, Udp};
 use std::alloc::{AllocError, Global};
 use values_plain::Octets;
 
@@ -25,7 +26,7 @@ pub struct Turn {
     /// What to serve, if anything.
     pub serve: Option<Serve<()>>,
     /// The datagrams to send, in order.
-    pub send: Listed<Packet>,
+    pub send: Packets,
     /// What to begin, if anything.
     pub begin: Option<Begin>,
 }
@@ -37,7 +38,7 @@ impl Turn {
     {
         Turn {
             serve: None,
-            send: Listed::new(Vec::new(alloc)),
+            send: Packets::new(Vec::new(alloc)),
             begin: None,
         }
     }
@@ -50,7 +51,7 @@ impl Turn {
         let send = packets_of(alloc, reply.send.as_slice())?;
         Ok(Turn {
             serve: reply.serve,
-            send: Listed::new(send),
+            send,
             begin: reply.begin,
         })
     }
@@ -67,8 +68,18 @@ fn packet_of(alloc: Global, sent: &Outgoing) -> Result<Packet, AllocError>
     })
 }
 
-/// Encodes messages, in order.
-fn packets_of(alloc: Global, messages: &[Outgoing]) -> Result<Vec<Packet>, AllocError>
+/// Encodes messages, in order. One alone takes no memory beside its octets.
+fn packets_of(alloc: Global, messages: &[Outgoing]) -> Result<Packets, AllocError>
+    ensures { IfOk result (λ packets. packets ≡ map packet_of messages.now) }
+{
+    match messages {
+        [sent] => Ok(Packets::one(packet_of(alloc, sent)?)),
+        _ => Ok(Packets::new(any_packets_of(alloc, messages)?)),
+    }
+}
+
+/// Encodes any number of messages, in order.
+fn any_packets_of(alloc: Global, messages: &[Outgoing]) -> Result<Vec<Packet>, AllocError>
     ensures { IfOk result (λ packets. packets.items ≡ map packet_of messages.now) }
 {
     let mut packets = Vec::with_capacity(alloc, messages.len())?;

@@ -1,5 +1,5 @@
 -- What the rules say of a new request, case by case, as the code takes it.
-use Rattle.std.proofs.Common.{◌≡◌, ℕ, suc, ◌+◌, ◌*◌, ◌==◌, true, false, cond, List, [], ◌∷◌, length, Option, Some, None, refl, sym, ap, ◌∙◌, arith}
+use Rattle.std.proofs.Common.{◌≡◌, ℕ, suc, ◌+◌, ◌*◌, ◌==◌, Bool, true, false, cond, List, [], ◌∷◌, length, Option, Some, None, refl, sym, ap, ◌∙◌, arith}
 use Rattle.std.proofs.lemmas.Bool.{false≢true}
 use Rattle.std.proofs.lemmas.Bool.Decides.{nat_tests}
 use Rattle.http_messages.specs.declared.ask.Ask.{Ask}
@@ -19,9 +19,9 @@ use Rattle.node_rules.specs.declared.reply.StepFault.TheVariants.{Busy}
 use Rattle.node_rules.specs.declared.reply.Begin.TheVariants as begin
 use Rattle.node_rules.specs.declared.reply.Reply.{Reply}
 use Rattle.node_rules.specs.Known.{has_origin}
-use Rattle.node_rules.specs.State.{Setting, Stepped, replies, refuses, served_age, with_copies, beginning, serving}
+use Rattle.node_rules.specs.State.{Setting, Stepped, replies, refuses, is_outside, served_age, with_copies, beginning, serving}
 use Rattle.node_rules.specs.Asks.{taking, free_block, new_ask, begin_round, begin_with_read, begin_ask, begin_if_free, ask_around, is_cached_only, not_held}
-use Rattle.node_rules.specs.Asks.{copy_for, by_copy, ask_comes, question_to}
+use Rattle.node_rules.specs.Asks.{copy_for, by_copy, ask_comes_to, ask_comes, question_to}
 use Rattle.node_rules.specs.Fetching.{fetching, origin_ask}
 
 module _ {X : Type 0} (g : Setting) (s : NodeState X) (asker : Option ℕ) (ask : Ask) (block now : ℕ) (mark : X) where
@@ -123,12 +123,20 @@ module _ {X : Type 0} (g : Setting) (s : NodeState X) (asker : Option ℕ) (ask 
 
   -- A request that arrives
 
+  pub comes_to : (outside : Bool) → is_outside g s ≡ outside → ask_comes g s asker ask now mark ≡ ask_comes_to g s asker ask now mark outside
+  unfolding ask_comes
+  comes_to outside is = ap (ask_comes_to g s asker ask now mark) is
+
+  pub refuses_outside : is_outside g s ≡ true → ask_comes g s asker ask now mark ≡ replies s (serving None asker (Status 503))
+  unfolding ask_comes_to
+  refuses_outside is = comes_to true is
+
   pub serves_copy : (found : Option (WebCopy X)) → found ≡ copy_for s ask now → (copy : WebCopy X) → found ≡ Some copy →
-      ask_comes g s asker ask now mark ≡ replies (with_copies s (to_front ask.key s.copies)) (serving None asker (Copy copy (served_age copy now)))
-  unfolding ask_comes by_copy
+      ask_comes_to g s asker ask now mark false ≡ replies (with_copies s (to_front ask.key s.copies)) (serving None asker (Copy copy (served_age copy now)))
+  unfolding ask_comes_to by_copy
   serves_copy found is copy held = ap (by_copy g s asker ask now mark) (sym is ∙ held)
 
   pub serves_none : (found : Option (WebCopy X)) → found ≡ copy_for s ask now → found ≡ None →
-      ask_comes g s asker ask now mark ≡ not_held g s asker ask now mark
-  unfolding ask_comes by_copy
+      ask_comes_to g s asker ask now mark false ≡ not_held g s asker ask now mark
+  unfolding ask_comes_to by_copy
   serves_none found is none = ap (by_copy g s asker ask now mark) (sym is ∙ none)

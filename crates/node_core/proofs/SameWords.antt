@@ -15,7 +15,7 @@ use Rattle.node_rules.specs.declared.state.NodeState.{NodeState}
 use Rattle.node_rules.specs.declared.reply.Reply.{Reply}
 use Rattle.node_rules.specs.declared.reply.StepFault.{StepFault}
 use Rattle.node_rules.specs.State.{Setting}
-use Rattle.node_rules.specs.Relation.{purge_in_content}
+use Rattle.node_rules.specs.Relation.{raise_in_content}
 use Rattle.node_rules.specs.Datagrams.{peer_at, hears, told_by, told_to, htcp_told, htcp_comes, tst_refused, tst_hit_said}
 use Rattle.node_core.specs.declared.questions.SaidWithStamp.{SaidWithStamp}
 use Rattle.node_core.specs.SaidWithStamp.{said_by}
@@ -60,12 +60,12 @@ module _ {X : Type 0} (g : Setting) (s : NodeState X) (from : Address) (trans no
 
   pub miss : (cache : List ℕ) → heard ≡ record { member = said.Miss; foreign = said.Miss } →
       Leads (htcp_told g s from trans (said_by heard) now mark) s out next
-      → MayClose (htcp_comes g s from trans now mark (content.TstMiss cache)) s (purge_in_content g from trans (content.TstMiss cache)) out next
+      → MayClose (htcp_comes g s from trans now mark (content.TstMiss cache)) s (raise_in_content g from trans (content.TstMiss cache)) out next
   unfolding htcp_comes
   miss cache of h = leads_may_close _ s None out next (alike (λ p. said.Miss) (of_both said.Miss heard of) h)
 
   pub hit : (detail : Detail) → ((p : Peer) → said_by heard p ≡ tst_hit_said detail.cache_headers p) →
       Leads (htcp_told g s from trans (said_by heard) now mark) s out next
-      → MayClose (htcp_comes g s from trans now mark (content.TstHit detail)) s (purge_in_content g from trans (content.TstHit detail)) out next
+      → MayClose (htcp_comes g s from trans now mark (content.TstHit detail)) s (raise_in_content g from trans (content.TstHit detail)) out next
   unfolding htcp_comes
   hit detail of h = leads_may_close _ s None out next (alike (tst_hit_said detail.cache_headers) of h)

@@ -41,8 +41,8 @@ fn is_siblings_ask(roster: &Roster, id: u8, asker: Option<u8>) -> bool
 }
 
 impl<T: Copy + Drop, S: FloorStore> Node<T, S> {
-    /// A request arrives. A held copy is served. Else a request to the store alone gets 504 (RFC
-    /// 9111, section 5.2.1.7). Else the node is `Busy`, or a round or an origin read begins.
+    /// A request arrives. An outside node serves 503 (RFC 9110, section 15.6.4), and changes
+    /// nothing.
     pub(crate) fn ask(
         &mut self,
         asker: Option<u8>,
@@ -55,6 +55,28 @@ impl<T: Copy + Drop, S: FloorStore> Node<T, S> {
         ensures leads { (key_of : List ℕ → Option (List ℕ)) →
             Leads (asks.ask_comes (setting_of self.old key_of) self.old.state asker ask now mark)
             self.old.state result self.new.state }
+    {
+        if self.is_outside() {
+            return Ok(serves(self.alloc, None, asker, Served::Status(503)));
+        }
+        self.ask_inside(asker, ask, now, mark)
+    }
+
+    /// A request arrives at a node that is not outside. A held copy is served. Else a request to
+    /// the store alone gets 504 (RFC 9111, section 5.2.1.7). Else the node is `Busy`, or a round or
+    /// an origin read begins.
+    fn ask_inside(
+        &mut self,
+        asker: Option<u8>,
+        ask: Ask,
+        now: u64,
+        mark: T,
+    ) -> Result<Reply<T>, StepFault>
+        requires { self.old.state.closed ≡ false }
+        ensures same { IsSameNode self.old self.new }
+        ensures leads { (key_of : List ℕ → Option (List ℕ)) →
+            Leads (asks.ask_comes_to (setting_of self.old key_of) self.old.state asker ask now mark
+            false) self.old.state result self.new.state }
     {
         match self.copy_to_serve(&ask, now)? {
             Some(copy) => Ok(self.serve_held(asker, &ask.key, copy, now)),

@@ -7,8 +7,7 @@ ghost use Rattle.node_core.specs.View.{IsSameNode};
 
 use crate::Node;
 use floor_rules::FloorStore;
-use http_messages::{Answer, Ask};
-use node_rules::StepFault;
+use http_messages::Ask;
 use object_store::WebCopy;
 use reuse_rules::is_fresh;
 use std::alloc::AllocError;

@@ -4,7 +4,7 @@ ghost use Rattle.icp_wire.specs.declared.message.IcpOp.TheVariants as ops;
 ghost use Rattle.node_rules.specs.Texts.{HasOpcode, IsSendable};
 ghost use Rattle.node_rules.specs.Messages as messages;
 ghost use Rattle.node_rules.specs.Datagrams as datagrams;
-ghost use Rattle.node_rules.specs.Relation.{purge_in_content, purge_in_message};
+ghost use Rattle.node_rules.specs.Relation.{raise_in_content, raise_in_message};
 ghost use Rattle.values_keys.specs.KeyOf.{GivesKeys};
 ghost use Rattle.node_core.specs.View.{IsSameNode, IsSameMember, setting_of};
 ghost use Rattle.floor_rules.specs.Store.{HaveRisen};
@@ -41,7 +41,7 @@ impl<T: Copy + Drop, S: FloorStore> Node<T, S> {
         ensures leads { (key_of : List ℕ → Option (List ℕ)) → GivesKeys key_of →
             MayClose (datagrams.datagram (setting_of self.old key_of)
             self.old.state from now mark message) self.old.state
-            (purge_in_message (setting_of self.old key_of) from message) result self.new.state }
+            (raise_in_message (setting_of self.old key_of) from message) result self.new.state }
     {
         match message.into_message() {
             Message::Icp(message) => self.icp(from, message, now, mark),
@@ -90,7 +90,7 @@ impl<T: Copy + Drop, S: FloorStore> Node<T, S> {
         ensures leads { (key_of : List ℕ → Option (List ℕ)) → GivesKeys key_of →
             MayClose (datagrams.htcp_comes
             (setting_of self.old key_of) self.old.state from trans now mark content)
-            self.old.state (purge_in_content (setting_of self.old key_of) from trans content)
+            self.old.state (raise_in_content (setting_of self.old key_of) from trans content)
             result self.new.state }
     {
         match content {

@@ -18,7 +18,7 @@ use node_messages::has_origin;
 use node_rules::{Begin, Fetch, Reply, Served, StepFault};
 use node_waiting::Progress;
 use peer_chooser::{Round, Source};
-use roster::{Listed, is_foreign};
+use roster::is_foreign;
 use std::alloc::{AllocError, Global};
 
 /// The most origin reads for one request.

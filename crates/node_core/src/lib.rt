@@ -13,7 +13,7 @@
 //! - `src/arrivals.rt`: `PeerAnswer`, `ForeignAnswer`, `OriginAnswer`, `FetchFailed`, `Expired`
 //! - `src/datagrams.rt`: `Datagram`. It answers NOP and unknown opcodes, and hands on the rest:
 //!   - `src/questions.rt`: QUERY and TST, and replies of peers to a round
-//!   - `src/purges.rt`: CLR
+//!   - `src/purges.rt`: CLR; `src/admissions.rt`: one that tells a base
 //!
 //! They use `src/going_on.rt` (where a pending request goes next), `src/copies.rt` (which copy may
 //! be served, which is stored) and `src/replies.rt` (makes a reply). `src/node.rt` has the type,
@@ -24,7 +24,8 @@
 //! Each method does whatever may fail before it changes anything: it copies, and makes its
 //! messages, first. So a failed allocation (`NoMemory`) leaves the node as it was.
 //!
-//! A purge is the one step that writes to the store. Its order, in `purge` of `src/purges.rt`:
+//! Purges and admissions alone write to the store. The order of a purge, in `purge` of
+//! `src/purges.rt`:
 //!
 //! 1. make the response;
 //! 2. where the base of the floors is to rise, drop all copies below the new base;
@@ -33,8 +34,11 @@
 //! 5. drop an older copy of the key;
 //! 6. return the response, so the acknowledgement leaves only after the commit.
 //!
+//! An admission, in `rebase` of `src/admissions.rt`, does the same but for 5: all copies below its
+//! number go at 2, and 3 and 4 raise the base.
+//!
 //! If the store fails at 4, even for lack of memory, the node closes: it drops its pending requests
-//! and answers `Closed` from then on. The store then has the floors from before the purge or from
+//! and answers `Closed` from then on. The store then has the floors from before the raise or from
 //! after it, and the copies that 2 dropped are gone.
 //!
 //! # What contracts see
@@ -63,6 +67,7 @@
 //! store's `NoMemory` closes a node.
 #![tactic(auto)]
 
+mod admissions;
 mod arrivals;
 mod asks;
 mod copies;

@@ -1,7 +1,8 @@
 ghost use Rattle.std.specs.Prelude.{◌≡◌, ◌==◌, find, option_map, OnOk, OnErr};
 ghost use Rattle.floor_rules.specs.Floors.{new_base};
 ghost use Rattle.object_store.specs.Listed.{without_all_below};
-ghost use Rattle.node_rules.specs.State.{fetch_serial, closed_node, with_copies};
+ghost use Rattle.node_rules.specs.State.{fetch_serial, closed_node, with_copies, setting};
+ghost use Rattle.node_rules.specs.State.{is_outside};
 ghost use Rattle.node_core.specs.View.{IsSameNode, IsTied};
 
 use floor_rules::{FloorStore, Floors};
@@ -38,7 +39,10 @@ impl<T, S: FloorStore> Model for Node<T, S> {
 
     ghost Value = { NodeText T S };
 
-    ghost coded = { Prim.hlevel (codes, map_code {R = slice_cmp nat_cmp} (coded_list coded_ℕ) coded_ℕ) };
+    ghost coded = { Prim.hlevel (
+      codes,
+      map_code {R = slice_cmp nat_cmp} (coded_list coded_ℕ) coded_ℕ,
+    ) };
 
     ghost view = { λ n. record {
       roster = n.roster;
@@ -53,7 +57,9 @@ impl<T, S: FloorStore> Model for Node<T, S> {
       store = n.store;
     } };
 
-    ghost invariant = { λ n. IsNode n.roster n.id n.copies n.pending n.next n.closed × IsTied n.closed n.floors (S.is_usable n.store) (S.is_honest n.store) (S.content n.store) };
+    ghost invariant = { λ n. IsNode n.roster n.id n.copies n.pending n.next n.closed
+        × IsTied n.closed n.floors (S.is_usable n.store) (S.is_honest n.store)
+        (S.content n.store) };
 }
 
 impl<T, S: FloorStore> Node<T, S> {
@@ -65,6 +71,14 @@ impl<T, S: FloorStore> Node<T, S> {
             (S.is_usable self.now.store) (S.is_honest self.now.store) (S.content self.now.store) }
     {
         self.closed
+    }
+
+    /// Whether the node is outside: its entry joins, and its base is 0, since the master has not
+    /// admitted it.
+    pub fn is_outside(&self) -> bool
+        ensures { result ≡ is_outside (setting self.now.roster self.now.id) self.now.state }
+    {
+        !self.roster.is_founding(self.id) && self.floors.base() == 0
     }
 
     /// The base of its floors after a purge of the key with this number, where the base rises, else
@@ -111,8 +125,8 @@ impl<T: Drop, S: FloorStore> Node<T, S> {
         self.pending = PendingList::new(self.alloc);
     }
 
-    /// Drops all copies with a stamp less than this base, as a purge does whose raise makes the
-    /// base. `AllocError`: an allocation failed, and nothing changes.
+    /// Drops all copies with a stamp less than this base, as a raise does that makes the base.
+    /// `AllocError`: an allocation failed, and nothing changes.
     pub fn drop_below(&mut self, base: u32) -> Result<(), AllocError>
         ensures same { IsSameNode self.old self.new }
         ensures ok { OnOk result (self.new.state ≡ with_copies self.old.state

@@ -1,9 +1,10 @@
-//! Purges: an HTCP CLR arrives (RFC 2756, "CLR").
+//! An HTCP CLR arrives (RFC 2756, "CLR"), and purges.
 ghost use Rattle.std.specs.Prelude.{◌≡◌, ◌≤◌, ℕ, List, Option, Some, None, option_map, IfOk, OnOk};
 ghost use Rattle.std.specs.Prelude.{OnErr, false, Err};
 ghost use Rattle.node_rules.specs.State as state;
 ghost use Rattle.node_rules.specs.Datagrams as datagrams;
-ghost use Rattle.node_rules.specs.Relation.{purge_meant};
+ghost use Rattle.node_rules.specs.Relation.{purge_by_line, raise_by_lines, raise_meant};
+ghost use Rattle.node_rules.specs.declared.raising.Raise.TheVariants.{Floor};
 ghost use Rattle.object_store.specs.Listed.{copy_of, without_all_below};
 ghost use Rattle.object_store.specs.Held.{is_older_than, with_copies};
 ghost use Rattle.floor_rules.specs.Floors.{new_base, raised};
@@ -19,7 +20,7 @@ use crate::Node;
 use crate::questions::key_of_text;
 use crate::replies::sends_if;
 use floor_rules::{FloorFault, FloorStore, Floors};
-use htcp_wire::{CLR, HeaderKind, NOT_ALLOWED, Specifier, number_in};
+use htcp_wire::{CLR, HeaderKind, HtcpFault, NOT_ALLOWED, Specifier, number_in};
 use node_messages::{clr_answer, is_known, overall_answer};
 use node_rules::{Reply, StepFault};
 use node_waiting::PendingList;
@@ -29,7 +30,7 @@ use std::alloc::{AllocError, Global};
 use url_key::Key;
 
 /// The response to a CLR that is not allowed.
-fn refused<T: Drop>(
+pub(crate) fn refused<T: Drop>(
     alloc: Global,
     from: Address,
     trans: u32,
@@ -70,7 +71,7 @@ fn raise_in_memory<T: Drop>(
 
 /// The fault of a step whose store gave this fault. Any other fault than `NoMemory` tells no more
 /// than that the store failed.
-fn step_fault_of(fault: FloorFault) -> StepFault
+pub(crate) fn step_fault_of(fault: FloorFault) -> StepFault
     ensures { result ≡ answer_to_fault fault }
 {
     match fault {
@@ -81,7 +82,6 @@ fn step_fault_of(fault: FloorFault) -> StepFault
 
 impl<T: Copy + Drop, S: FloorStore> Node<T, S> {
     /// A CLR arrives.
-    #[tactic(auto, unfolding(node_rules::specs::Datagrams::htcp_clr, node_rules::specs::Datagrams::clr_by_line), using(crate::proofs::Outcomes::without_fault, crate::proofs::Outcomes::without_fault_by))]
     pub(crate) fn htcp_clr(
         &mut self,
         from: Address,
@@ -98,12 +98,72 @@ impl<T: Copy + Drop, S: FloorStore> Node<T, S> {
         ensures leads { (key_of : List ℕ → Option (List ℕ)) → GivesKeys key_of →
             MayClose (datagrams.htcp_clr (setting_of self.old key_of)
             self.old.state from trans desired spec.now) self.old.state
-            (purge_meant (setting_of self.old key_of) from trans spec.now) result self.new.state }
+            (raise_meant (setting_of self.old key_of) from trans spec.now) result self.new.state }
     {
         let key = key_of_text(self.alloc, spec.uri.as_slice())?;
-        match number_in(spec.request_headers.as_slice(), HeaderKind::PurgeNumber) {
-            Ok(None) => self.plain_clr(from, trans, desired, key.as_ref()),
-            Ok(Some(number)) => self.numbered_clr(from, trans, desired, key.as_ref(), number),
+        let headers = spec.request_headers.as_slice();
+        let number = number_in(headers, HeaderKind::PurgeNumber);
+        let base = number_in(headers, HeaderKind::PurgeBase);
+        self.clr_by_lines(from, trans, desired, key.as_ref(), number, base)
+    }
+
+    /// A CLR arrives with what its number line and its base line tell.
+    #[tactic(auto, unfolding(node_rules::specs::Datagrams::clr_by_lines), using(crate::proofs::Outcomes::leads_may_close, crate::proofs::Outcomes::without_fault))]
+    fn clr_by_lines(
+        &mut self,
+        from: Address,
+        trans: u32,
+        desired: bool,
+        key: Option<&Key>,
+        number: Result<Option<u32>, HtcpFault>,
+        base: Result<Option<u32>, HtcpFault>,
+    ) -> Result<Reply<T>, StepFault>
+        requires { self.old.state.closed ≡ false }
+        ensures same { IsSameMember self.old self.new }
+        ensures store { KeepsStore (S.is_honest self.new.store)
+            (S.may_find self.new.store) self.old self.new result }
+        ensures cause { FailsWithCause (S.is_honest self.new.store)
+            (HaveRisen (S.failed self.old.store) (S.failed self.new.store)) result }
+        ensures leads { (key_of : List ℕ → Option (List ℕ)) →
+            let url = option_map (λ k. k.now) key.entry in
+            MayClose (datagrams.clr_by_lines (setting_of self.old key_of)
+            self.old.state from trans desired url number base) self.old.state
+            (raise_by_lines (setting_of self.old key_of) from trans url number base)
+            result self.new.state }
+    {
+        match base {
+            Ok(None) => self.clr_by_line(from, trans, desired, key, number),
+            Ok(Some(base)) => self.base_clr(from, trans, desired, base, number),
+            Err(_) => Ok(refused(self.alloc, from, trans, desired)?),
+        }
+    }
+
+    /// A CLR without a base line arrives, with what its number line tells.
+    #[tactic(auto, unfolding(node_rules::specs::Datagrams::clr_by_line), using(crate::proofs::Outcomes::leads_may_close, crate::proofs::Outcomes::without_fault))]
+    fn clr_by_line(
+        &mut self,
+        from: Address,
+        trans: u32,
+        desired: bool,
+        key: Option<&Key>,
+        number: Result<Option<u32>, HtcpFault>,
+    ) -> Result<Reply<T>, StepFault>
+        requires { self.old.state.closed ≡ false }
+        ensures same { IsSameMember self.old self.new }
+        ensures store { KeepsStore (S.is_honest self.new.store)
+            (S.may_find self.new.store) self.old self.new result }
+        ensures cause { FailsWithCause (S.is_honest self.new.store)
+            (HaveRisen (S.failed self.old.store) (S.failed self.new.store)) result }
+        ensures leads { (key_of : List ℕ → Option (List ℕ)) →
+            let url = option_map (λ k. k.now) key.entry in
+            MayClose (datagrams.clr_by_line (setting_of self.old key_of)
+            self.old.state from trans desired url number) self.old.state
+            (purge_by_line (setting_of self.old key_of) from trans url number)
+            result self.new.state }
+    {
+        match number {
+            Ok(None) => self.plain_clr(from, trans, desired, key),
+            Ok(Some(number)) => self.numbered_clr(from, trans, desired, key, number),
             Err(_) => Ok(refused(self.alloc, from, trans, desired)?),
         }
     }
@@ -139,7 +199,7 @@ impl<T: Copy + Drop, S: FloorStore> Node<T, S> {
 
     /// A CLR with a number arrives. A good one comes from the master, for a URI that has a key, and
     /// its number is its TRANS-ID and at least 1. Any other is refused.
-    #[tactic(auto, unfolding(node_rules::specs::Datagrams::numbered_clr))]
+    #[tactic(auto, unfolding(node_rules::specs::Datagrams::raising_clr))]
     fn numbered_clr(
         &mut self,
         from: Address,
@@ -157,7 +217,7 @@ impl<T: Copy + Drop, S: FloorStore> Node<T, S> {
         ensures leads { (key_of : List ℕ → Option (List ℕ)) →
             let purge = datagrams.purge_of (setting_of self.old key_of) from trans
             (option_map (λ k. k.now) key.entry) number in
-            MayClose (datagrams.numbered_clr self.old.state from trans desired purge)
+            MayClose (datagrams.raising_clr self.old.state from trans desired purge)
             self.old.state purge result self.new.state }
     {
         match key {
@@ -199,7 +259,7 @@ impl<T: Copy + Drop, S: FloorStore> Node<T, S> {
         ensures cause { FailsWithCause (S.is_honest self.new.store)
             (HaveRisen (S.failed self.old.store) (S.failed self.new.store)) result }
         ensures leads { MayClose (datagrams.purge self.old.state from trans desired key.now number)
-            self.old.state (Some (key.now, number)) result self.new.state }
+            self.old.state (Some (Floor key.now number)) result self.new.state }
     {
         let dropped = self.holds_below(key, number.max(self.floors.new_base(key, number)));
         let reply = sends_if(self.alloc, desired, clr_answer(from, trans, dropped))?;

@@ -9,14 +9,13 @@ ghost use Rattle.icp_wire.specs.declared.message.IcpOp.TheVariants as ops;
 ghost use Rattle.values_tables.specs.declared.plain.Peer.{Peer as PeerText};
 ghost use Rattle.values_plain.specs.declared.address.Udp.TheVariants as udp;
 ghost use Rattle.peer_chooser.specs.Round.{has_answered as has_answered_in};
-ghost use Rattle.node_rules.specs.Known.{is_known as is_known_at};
 ghost use Rattle.values_keys.specs.KeyOf.{GivesKeys};
 ghost use Rattle.node_core.specs.View.{IsSameNode, setting_of, HasKeyOf};
 ghost use Rattle.node_core.specs.SaidWithStamp.{said_by};
 ghost use Rattle.node_core.specs.Leads.{Leads};
 
 use crate::Node;
-use crate::replies::{quiet, sends, sends_if};
+use crate::replies::{quiet, sends};
 use floor_rules::FloorStore;
 use htcp_wire::{HeaderKind, NOT_ALLOWED, Specifier, TST, number_in};
 use icp_wire::{Icp, IcpOp};
@@ -115,13 +114,21 @@ fn has_answered(round: &Round, id: u8) -> bool
 }
 
 impl<T: Copy + Drop, S: FloorStore> Node<T, S> {
+    /// Whether the sender's queries are answered: the node knows it, and is not outside.
+    fn answers_to(&self, by: Udp, from: Address) -> bool
+        ensures { result ≡ datagrams.answers_to (state.setting self.now.roster self.now.id)
+            self.now.state by from }
+    {
+        !self.is_outside() && is_known(&self.roster, self.id, by, from)
+    }
+
     /// The opcode that answers a QUERY (RFC 2186, "ICP_OP_QUERY").
     fn query_answer(&self, from: Address, key: Option<&Key>, now: u64) -> IcpOp
         ensures { result ≡ datagrams.icp_answer
-            (is_known_at self.now.roster self.now.id udp.Icp from) self.now.state now
-            (option_map (λ k. k.now) key.entry) }
+            (datagrams.answers_to (state.setting self.now.roster self.now.id) self.now.state udp.Icp
+            from) self.now.state now (option_map (λ k. k.now) key.entry) }
     {
-        if !is_known(&self.roster, self.id, Udp::Icp, from) {
+        if !self.answers_to(Udp::Icp, from) {
             return IcpOp::Denied;
         }
         match key {
@@ -187,7 +194,7 @@ impl<T: Copy + Drop, S: FloorStore> Node<T, S> {
         if !desired {
             return Ok(quiet(self.alloc));
         }
-        if !is_known(&self.roster, self.id, Udp::Htcp, from) {
+        if !self.answers_to(Udp::Htcp, from) {
             return Ok(sends(self.alloc, overall_answer(from, trans, TST, NOT_ALLOWED))?);
         }
         let stamp = self.stamp_meant(spec, now)?;

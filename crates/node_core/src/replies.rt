@@ -1,5 +1,5 @@
 //! Replies that steps make.
-ghost use Rattle.std.specs.Prelude.{◌≡◌, [], ◌∷◌, IfOk};
+ghost use Rattle.std.specs.Prelude.{◌≡◌, [], ◌∷◌, IfOk, if◌then◌else◌};
 ghost use Rattle.node_rules.specs.declared.state.NodeState.{NodeState};
 ghost use Rattle.node_rules.specs.State as state;
 ghost use Rattle.node_rules.specs.Datagrams as datagrams;
@@ -48,6 +48,33 @@ pub(crate) fn serves<T>(
         send: Listed::new(Vec::new(alloc)),
         begin: None,
     }
+}
+
+/// A reply that only sends these messages. Allocates nothing.
+pub(crate) fn sends_all<T>(messages: Vec<Outgoing>) -> Reply<T>
+    ensures { result ≡ state.sending messages.items }
+{
+    Reply {
+        serve: None,
+        send: Listed::new(messages),
+        begin: None,
+    }
+}
+
+/// The one message of a response, or none if no response is desired (RFC 2756, "RD").
+pub(crate) fn response(
+    alloc: Global,
+    desired: bool,
+    message: Outgoing,
+) -> Result<Vec<Outgoing>, AllocError>
+    ensures { IfOk result (λ made. made.items ≡ if desired then message ∷ [] else []) }
+{
+    if !desired {
+        return Ok(Vec::new(alloc));
+    }
+    let mut messages = Vec::with_capacity(alloc, 1)?;
+    messages.push(message)?;
+    Ok(messages)
 }
 
 /// A reply that only sends one message.

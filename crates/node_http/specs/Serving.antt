@@ -5,7 +5,6 @@ use Rattle.http_writing.specs.Answer.{answer_text}
 use Rattle.http_writing.specs.Served.{served_as, bare}
 use Rattle.node_rules.specs.declared.reply.Served.{Served}
 use Rattle.node_rules.specs.declared.reply.Served.TheVariants.{Copy, Status}
-use Rattle.node_rules.specs.declared.reply.Serve.{Serve}
 
 -- A stamp is told to a member of the hierarchy, and never to a client.
 abbrev pub stamp_for : Option ℕ → ℕ → Option ℕ

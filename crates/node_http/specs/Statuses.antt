@@ -4,17 +4,19 @@ use Rattle.http_messages.specs.declared.fault.FetchFault.{FetchFault}
 use Rattle.http_messages.specs.declared.fault.FetchFault.TheVariants.{Io, EndOfInput, BadHead, HeadTooLong, BadTarget, MethodNotServed, Credentials, BadBody}
 use Rattle.http_messages.specs.declared.fault.FetchFault.TheVariants.{BodyTooLong, TooManyTurns, NoMemory}
 use Rattle.http_messages.specs.Fault.{fetch_fault_name}
+use Rattle.url_key.specs.declared.fault.KeyFault.TheVariants.{TooLong}
 use Rattle.node_rules.specs.Names.{step_fault_name}
 use Rattle.node_http.specs.declared.fault.ServeFault.{ServeFault}
 use Rattle.node_http.specs.declared.fault.ServeFault.TheVariants.{Fetch, Step}
 
--- The status for a request that was not read, by its fault (431: RFC 6585, section 5). Nothing is
--- written if the request has no end.
+-- The status for a request that was not read, by its fault (414: RFC 9112, section 3; 431: RFC 6585,
+-- section 5). Nothing is written if the request has no end.
 abbrev pub refusal_of : FetchFault → Option ℕ
 refusal_of Io = None
 refusal_of EndOfInput = None
 refusal_of BadHead = Some 400
 refusal_of HeadTooLong = Some 431
+refusal_of (BadTarget TooLong) = Some 414
 refusal_of (BadTarget fault) = Some 400
 refusal_of MethodNotServed = Some 501
 refusal_of Credentials = Some 501

@@ -28,9 +28,9 @@ pub enum Asked {
 ///
 /// Faults, with the status that is written:
 ///
-/// - a fault of `read_ask`, and no step is taken: 400 for `BadHead`, `BadTarget` and `BadBody`; 431
-///   for `HeadTooLong`; 501 for `MethodNotServed` and `Credentials`; 503 for `NoMemory`; nothing
-///   for `Io`, `EndOfInput` and `TooManyTurns`
+/// - a fault of `read_ask`, and no step is taken: 400 for `BadHead`, `BadTarget` and `BadBody`, but
+///   414 for a URL that is too long; 431 for `HeadTooLong`; 501 for `MethodNotServed` and
+///   `Credentials`; 503 for `NoMemory`; nothing for `Io`, `EndOfInput` and `TooManyTurns`
 /// - a fault of the step: 503
 /// - `NoMemory` of a step that stands, since its datagrams found no memory; none of them is sent:
 ///   503

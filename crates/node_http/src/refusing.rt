@@ -10,17 +10,20 @@ use crate::fault::ServeFault;
 use http_messages::FetchFault;
 use http_writing::write_status;
 use std::io::Write;
+use url_key::KeyFault;
 
 /// The status if a step was refused (RFC 9110, section 15.6.4).
 const UNAVAILABLE: u16 = 503;
 
-/// The status for a request that was not read (RFC 9110, section 15; 431: RFC 6585, section 5).
+/// The status for a request that was not read (RFC 9110, section 15; 414: RFC 9112, section 3; 431:
+/// RFC 6585, section 5).
 /// None if nothing is written. `read_ask` never gives `BodyTooLong`.
 fn refusal_of(fault: FetchFault) -> Option<u16>
     ensures { result ≡ status_refusing fault }
 {
     match fault {
         FetchFault::Io | FetchFault::EndOfInput | FetchFault::TooManyTurns => None,
+        FetchFault::BadTarget(KeyFault::TooLong) => Some(414),
         FetchFault::BadHead | FetchFault::BadTarget(_) | FetchFault::BadBody => Some(400),
         FetchFault::HeadTooLong => Some(431),
         FetchFault::MethodNotServed | FetchFault::Credentials => Some(501),
@@ -31,9 +34,9 @@ fn refusal_of(fault: FetchFault) -> Option<u16>
 
 /// The status for a request that was not served; none if nothing is written.
 ///
-/// - of `Fetch`: 400 for `BadHead`, `BadTarget` and `BadBody`; 413 for `BodyTooLong`; 431 for
-///   `HeadTooLong`; 501 for `MethodNotServed` and `Credentials`; 503 for `NoMemory`; none for `Io`,
-///   `EndOfInput` and `TooManyTurns`
+/// - of `Fetch`: 414 for a URL that is too long; 400 for `BadHead`, any other `BadTarget` and
+///   `BadBody`; 413 for `BodyTooLong`; 431 for `HeadTooLong`; 501 for `MethodNotServed` and
+///   `Credentials`; 503 for `NoMemory`; none for `Io`, `EndOfInput` and `TooManyTurns`
 /// - of `Step`: 503
 pub fn status_for(fault: ServeFault) -> Option<u16>
     ensures { result ≡ status_told fault }

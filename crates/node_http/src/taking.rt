@@ -116,7 +116,8 @@ fn block_of(begin: &Begin) -> u32
 
 /// Hands on what a reply says is to be done, if there is memory for it.
 fn hand_on(alloc: Global, block: u32, reply: Reply<()>) -> Result<Taken, ServeFault>
-    ensures { (result ≡ Ok (Taken.Waits block (turn_of reply))) ⊎ (result ≡ Err (ServeFault.Step StepFault.NoMemory)) }
+    ensures { (result ≡ Ok (Taken.Waits block (turn_of reply)))
+        ⊎ (result ≡ Err (ServeFault.Step StepFault.NoMemory)) }
 {
     match Turn::of(alloc, reply) {
         Ok(turn) => Ok(Taken::Waits(block, turn)),

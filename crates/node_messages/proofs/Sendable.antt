@@ -58,7 +58,9 @@ pub htcp_query_fits : (serial : ℕ) (key : List ℕ) → IsKey key → htcp_tex
 htcp_query_fits serial key k = record {
   minor = refl;
   in_range = tt;
-  short = let size = length-written_with serial (htcp_text.written_data (content.TstAsk true (get key))) in omega (arith, k.short, size, length-append key (counted (codes "HTTP/1.1") ++ counted []));
+  short =
+      let size = length-written_with serial (htcp_text.written_data (content.TstAsk true (get key))) in
+      omega (arith, k.short, size, length-append key (counted (codes "HTTP/1.1") ++ counted []));
 }
 
 -- Answers

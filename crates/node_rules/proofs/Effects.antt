@@ -1,7 +1,7 @@
--- Each rule of the step has one of the five effects, and keeps what each keeps. The proof goes over
+-- Each rule of the step has one of the six effects, and keeps what each keeps. The proof goes over
 -- the rules in the order of specs/: each lemma NAME_does is about the rule NAME.
 use Rattle.std.proofs.Common.{◌≡◌, ℕ, ◌*◌, ◌≤◌, Bool, true, false, cond, not, ◌&&◌, ◌||◌, List, [], ◌∷◌, option_map, find, map, filter, Option, Some, None}
-use Rattle.std.proofs.Common.{Result, Ok, Err, refl, sym, ◌∙◌, ap, inr, nat_le, nat_eq, subst, rules}
+use Rattle.std.proofs.Common.{Result, Ok, Err, refl, sym, ◌∙◌, ap, inr, nat_le, nat_eq, subst, rules, arith}
 use Rattle.std.specs.List.{AllByRecursion, Contains, cons_option, filter_map}
 use Rattle.std.specs.Prelude.{bytes_eq}
 use Rattle.node_rules.specs.declared.message.Outgoing.{Outgoing}
@@ -32,9 +32,12 @@ use Rattle.node_rules.specs.declared.state.Pending.{Pending}
 use Rattle.node_rules.specs.declared.state.NodeState.{NodeState}
 use Rattle.node_rules.specs.declared.event.Event.{Event}
 use Rattle.node_rules.specs.declared.event.Event.TheVariants as event
-use Rattle.floor_rules.specs.Floors.{floor, raised}
+use Rattle.floor_rules.specs.Floors.{floor, raised, with_base}
+use Rattle.node_rules.specs.declared.raising.Raise.{Raise}
+use Rattle.node_rules.specs.declared.raising.Raise.TheVariants.{Floor, Base}
+use Rattle.node_rules.specs.Raises.{number_of}
 use Rattle.node_rules.specs.Messages.{htcp, to, query, overall}
-use Rattle.node_rules.specs.Relation.{purge_in, purge_in_content, purge_in_message, purge_by_line}
+use Rattle.node_rules.specs.Relation.{raise_in, raise_in_content, raise_in_message, purge_by_line, raise_by_lines}
 use Rattle.values_tables.specs.Ranges.{is_foreign_id}
 use Rattle.roster.specs.Lookups.{is_master, address_by}
 use Rattle.node_rules.specs.Known.{has_origin, is_known, cache_of}
@@ -44,17 +47,21 @@ use Rattle.reuse_rules.specs.Lifetime.{lifetime}
 use Rattle.htcp_wire.specs.declared.fault.HtcpFault.{HtcpFault}
 use Rattle.values_plain.specs.declared.address.Udp.TheVariants as udp
 use Rattle.node_rules.specs.Effect.{copy_served, sent, IsOwnFault, ServesBareStatus, ComesFrom, HasRaised, IsObedient, IsUnderWay, IsReadOf, IsAt, IsFromOrigin}
-use Rattle.node_rules.specs.Effect.{IsFromPeer, IsAnswerTo, IsAnswerOf, Effect, Stays, Serves, Brings, Purges, Drops, IsHeldAbove, state_of}
-use Rattle.node_rules.specs.State.{Setting, Stepped, replies, refuses, quiet, fetch_serial, is_idle, is_of_block, inserted, age_of, is_good, if_good, good_copy}
+use Rattle.node_rules.specs.Effect.{IsFromPeer, IsAnswerTo, IsAnswerOf, Effect, Stays, Serves, Brings, Purges, Rebases, Drops, IsHeldAbove, state_of}
+use Rattle.node_rules.specs.State.{Setting, Stepped, replies, refuses, quiet, is_outside, fetch_serial, is_idle, is_of_block, inserted, age_of}
+use Rattle.node_rules.specs.State.{is_good, if_good}
+use Rattle.node_rules.specs.State.{good_copy}
 use Rattle.reuse_rules.specs.Freshness.{is_fresh}
 use Rattle.node_rules.specs.Fetching.{fetching, ask_peer, begin_read, read_origin, go_to, go_on}
 use Rattle.node_rules.specs.Asks.{new_ask, question_to, is_cached_only, begin_round, begin_with_read, ask_around, begin_ask, begin_if_free, not_held, by_copy}
-use Rattle.node_rules.specs.Asks.{copy_for, ask_comes}
+use Rattle.node_rules.specs.Asks.{copy_for, ask_comes_to, ask_comes}
 use Rattle.node_rules.specs.Arrivals.{new_copy, is_fetch, with_round, use_answer, try_on, is_gateway_fault, peer_gave, origin_gave, from_peer, peer_answer_to}
 use Rattle.node_rules.specs.Arrivals.{peer_answer, foreign_answer, from_origin, origin_answer_to, origin_answer, fails, failure_of, fetch_failed, round_moves}
 use Rattle.node_rules.specs.Arrivals.{expires, expiry_of, round_expired}
-use Rattle.node_rules.specs.Datagrams.{sends_back, tst_answer, copy_meant, purged, purge_of, if_desired, icp_query, htcp_tst, hears, told_by, told_to, icp_told}
-use Rattle.node_rules.specs.Datagrams.{htcp_told, clr_done, purge, numbered_clr, dropped, plain_clr, clr_by_line, htcp_clr, icp_comes, tst_refused, htcp_comes}
+use Rattle.node_rules.specs.Datagrams.{answers_to, sends_back, tst_answer, copy_meant, purged, rebased, purge_of, base_alone, is_masters, if_desired}
+use Rattle.node_rules.specs.Datagrams.{icp_query, htcp_tst, hears, told_by, told_to, icp_told}
+use Rattle.node_rules.specs.Datagrams.{htcp_told, clr_done, purge, rebase, raising_clr, dropped, plain_clr, clr_by_line, clr_by_lines, htcp_clr, icp_comes}
+use Rattle.node_rules.specs.Datagrams.{tst_refused, htcp_comes}
 use Rattle.node_rules.specs.Datagrams.{datagram}
 use Rattle.node_rules.specs.Step.{open_step, step_if, step}
 use Rattle.node_rules.proofs.Cases.{branches, both_true, test_le, unless_refused, same_Some, true_not_false}
@@ -97,12 +104,27 @@ query_first (Some x) rest h all = (h x refl, all)
 pub raised_to : (floors : FloorTable) (key : List ℕ) (n m : ℕ) → n ≡ m → m ≤ floor (raised floors key n) key
 raised_to floors key n m same = subst (λ k. k ≤ floor (raised floors key n) key) same (raise_reaches floors key n)
 
-purge_number_is : (g : Setting) (from : Address) (trans : ℕ) (key : Option (List ℕ)) (n : ℕ) (x : List ℕ × ℕ) → purge_of g from trans key n ≡ Some x →
-    x.1 ≡ trans
-purge_number_is g from trans None n x e = absurd (none-some x e)
-purge_number_is g from trans (Some key) n x e =
-    let (good, same) = cond_some ((is_master g.roster from && nat_eq n trans) && nat_le 1 n) (key, n) x e in
-    ap (λ (y : List ℕ × ℕ). y.1) (sym same) ∙ same_number n trans (and_parts (is_master g.roster from) (nat_eq n trans) (and_parts _ (nat_le 1 n) good).0).1
+pub based_to : (floors : FloorTable) (n m : ℕ) → n ≡ m → m ≤ (with_base floors n).base
+based_to floors n m same = omega (arith, same)
+
+-- the number of the master's that a raise has is the TRANS-ID
+masters_is : (g : Setting) (from : Address) (trans n : ℕ) (raise other : Raise) → number_of raise ≡ n →
+    cond (is_masters g from trans n) (Some raise) None ≡ Some other → number_of other ≡ trans
+masters_is g from trans n raise other its e =
+    let (good, same) = cond_some (is_masters g from trans n) raise other e in
+    ap number_of (sym same) ∙ its
+    ∙ same_number n trans (and_parts (is_master g.roster from) (nat_eq n trans) (and_parts _ (nat_le 1 n) good).0).1
+
+purge_number_is : (g : Setting) (from : Address) (trans : ℕ) (key : Option (List ℕ)) (n : ℕ) (raise : Raise) → purge_of g from trans key n ≡ Some raise →
+    number_of raise ≡ trans
+purge_number_is g from trans None n raise e = absurd (none-some raise e)
+purge_number_is g from trans (Some key) n raise e = masters_is g from trans n (Floor key n) raise refl e
+
+base_number_is : (g : Setting) (from : Address) (trans n : ℕ) (number : Result (Option ℕ) HtcpFault) (raise : Raise) →
+    base_alone g from trans n number ≡ Some raise → number_of raise ≡ trans
+base_number_is g from trans n (Ok None) raise e = masters_is g from trans n (Base n) raise refl e
+base_number_is g from trans n (Ok (Some number)) raise e = absurd (none-some raise e)
+base_number_is g from trans n (Err fault) raise e = absurd (none-some raise e)
 
 -- a copy that is chosen for a key is held, and not below its floor
 good_is_held : {X : Type 0} (rows : FloorTable) (copies : List (WebCopy X)) (key : List ℕ) (now : ℕ) (o : Option (WebCopy X)) (c : WebCopy X) →
@@ -243,16 +265,22 @@ module _ {X : Type 0} (g : Setting) (s : NodeState X) (e : Event X) (mark : X) w
       branches Does (is_cached_only g asker ask) _ _ (λ _. stays s.pending s.next _ refl all_stay refl tt tt)
       (λ _. begin_if_free_does asker ask now _)
 
-  by_copy_does : s.closed ≡ false → (asker : Option ℕ) (ask : Ask) (now : ℕ) (o : Option (WebCopy X)) →
+  by_copy_does : s.closed ≡ false → is_outside g s ≡ false → (asker : Option ℕ) (ask : Ask) (now : ℕ) (o : Option (WebCopy X)) →
       ((c : WebCopy X) → o ≡ Some c → IsHeldAbove s.floors s.copies ask.key c) → Does (by_copy g s asker ask now mark o)
   unfolding by_copy
-  by_copy_does is_open asker ask now None h = not_held_does asker ask now
-  by_copy_does is_open asker ask now (Some c) h = Serves ask.key c s.pending s.next _ is_open (h c refl) refl
+  by_copy_does is_open is_in asker ask now None h = not_held_does asker ask now
+  by_copy_does is_open is_in asker ask now (Some c) h = Serves ask.key c s.pending s.next _ is_open is_in (h c refl) refl
       (record { reads = reads_of s.pending _ all_stay; statuses = tt; acknowledges = tt; faults = tt })
+
+  ask_comes_to_does : s.closed ≡ false → (asker : Option ℕ) (ask : Ask) (now : ℕ) (outside : Bool) → is_outside g s ≡ outside →
+      Does (ask_comes_to g s asker ask now mark outside)
+  unfolding ask_comes_to
+  ask_comes_to_does is_open asker ask now true is = stays s.pending s.next _ refl all_stay refl tt tt
+  ask_comes_to_does is_open asker ask now false is = by_copy_does is_open is asker ask now _ (copy_for_held s ask now)
 
   ask_comes_does : s.closed ≡ false → (asker : Option ℕ) (ask : Ask) (now : ℕ) → Does (ask_comes g s asker ask now mark)
   unfolding ask_comes
-  ask_comes_does is_open asker ask now = by_copy_does is_open asker ask now _ (copy_for_held s ask now)
+  ask_comes_does is_open asker ask now = ask_comes_to_does is_open asker ask now _ refl
 
   -- Arrivals
 
@@ -420,14 +448,14 @@ module _ {X : Type 0} (g : Setting) (s : NodeState X) (e : Event X) (mark : X) w
   htcp_told_does from trans said now = told_to_does _ from said now _ _ refl
 
   -- the response to a CLR that was followed is an acknowledgement
-  done_does : (next : NodeState X) (from : Address) (trans : ℕ) (desired gone : Bool) → ComesFrom e from → HasRaised next.floors (purge_in g e) trans →
+  done_does : (next : NodeState X) (from : Address) (trans : ℕ) (desired gone : Bool) → ComesFrom e from → HasRaised next.floors (raise_in g e) trans →
       ((outcome : Outcome) → copy_served outcome ≡ None → ServesBareStatus outcome → AllByRecursion (IsObedient g e next.floors) (sent outcome) →
       IsOwnFault outcome → Does record { state = next; outcome = outcome }) → Does (clr_done next from trans desired gone)
   done_does next from trans true true comes raised h = h _ refl tt ((comes, raised), tt) tt
   done_does next from trans true false comes raised h = h _ refl tt ((comes, raised), tt) tt
   done_does next from trans false gone comes raised h = h _ refl tt tt tt
 
-  purge_does : (from : Address) (trans : ℕ) (desired : Bool) (key : List ℕ) (n : ℕ) → ComesFrom e from → n ≡ trans → purge_in g e ≡ Some (key, n) →
+  purge_does : (from : Address) (trans : ℕ) (desired : Bool) (key : List ℕ) (n : ℕ) → ComesFrom e from → n ≡ trans → raise_in g e ≡ Some (Floor key n) →
       Does (purge s from trans desired key n)
   unfolding purge
   purge_does from trans desired key n comes same is =
@@ -436,11 +464,21 @@ module _ {X : Type 0} (g : Setting) (s : NodeState X) (e : Event X) (mark : X) w
       (λ outcome none bare obeys plain. Purges key n s.pending s.next outcome is none
       (record { reads = reads_of s.pending outcome all_stay; statuses = bare; acknowledges = obeys; faults = plain }))
 
-  numbered_clr_does : (from : Address) (trans : ℕ) (desired : Bool) (o : Option (List ℕ × ℕ)) → ComesFrom e from → purge_in g e ≡ o →
-      ((x : List ℕ × ℕ) → o ≡ Some x → x.1 ≡ trans) → Does (numbered_clr s from trans desired o)
-  unfolding numbered_clr
-  numbered_clr_does from trans desired None comes is same = if_desired_does desired from _ tt
-  numbered_clr_does from trans desired (Some x) comes is same = purge_does from trans desired x.0 x.1 comes (same x refl) is
+  rebase_does : (from : Address) (trans : ℕ) (desired : Bool) (n : ℕ) → ComesFrom e from → n ≡ trans → raise_in g e ≡ Some (Base n) →
+      Does (rebase s from trans desired n)
+  unfolding rebase
+  rebase_does from trans desired n comes same is =
+      done_does (rebased s n) from trans desired _ comes
+      (subst (λ o. HasRaised (with_base s.floors n) o trans) (sym is) (same, based_to s.floors n trans same))
+      (λ outcome none bare obeys plain. Rebases n s.pending s.next outcome is none
+      (record { reads = reads_of s.pending outcome all_stay; statuses = bare; acknowledges = obeys; faults = plain }))
+
+  raising_clr_does : (from : Address) (trans : ℕ) (desired : Bool) (o : Option Raise) → ComesFrom e from → raise_in g e ≡ o →
+      ((raise : Raise) → o ≡ Some raise → number_of raise ≡ trans) → Does (raising_clr s from trans desired o)
+  unfolding raising_clr
+  raising_clr_does from trans desired None comes is same = if_desired_does desired from _ tt
+  raising_clr_does from trans desired (Some (Floor key n)) comes is same = purge_does from trans desired key n comes (same _ refl) is
+  raising_clr_does from trans desired (Some (Base n)) comes is same = rebase_does from trans desired n comes (same _ refl) is
 
   dropped_does : (key : Option (List ℕ)) (outcome : Outcome) → copy_served outcome ≡ None → ServesBareStatus outcome →
       AllByRecursion (IsObedient g e s.floors) (sent outcome) → IsOwnFault outcome → Does record { state = dropped s key; outcome = outcome }
@@ -452,7 +490,7 @@ module _ {X : Type 0} (g : Setting) (s : NodeState X) (e : Event X) (mark : X) w
   dropped_floors None = refl
   dropped_floors (Some key) = refl
 
-  plain_clr_does : (from : Address) (trans : ℕ) (desired : Bool) (key : Option (List ℕ)) → ComesFrom e from → purge_in g e ≡ None →
+  plain_clr_does : (from : Address) (trans : ℕ) (desired : Bool) (key : Option (List ℕ)) → ComesFrom e from → raise_in g e ≡ None →
       Does (plain_clr g s from trans desired key)
   unfolding plain_clr
   plain_clr_does from trans desired key comes is =
@@ -463,11 +501,19 @@ module _ {X : Type 0} (g : Setting) (s : NodeState X) (e : Event X) (mark : X) w
       (λ _. if_desired_does desired from _ tt)
 
   clr_by_line_does : (from : Address) (trans : ℕ) (desired : Bool) (key : Option (List ℕ)) (line : Result (Option ℕ) HtcpFault) → ComesFrom e from →
-      purge_in g e ≡ purge_by_line g from trans key line → Does (clr_by_line g s from trans desired key line)
+      raise_in g e ≡ purge_by_line g from trans key line → Does (clr_by_line g s from trans desired key line)
   unfolding clr_by_line
   clr_by_line_does from trans desired key (Ok None) comes is = plain_clr_does from trans desired key comes is
-  clr_by_line_does from trans desired key (Ok (Some n)) comes is = numbered_clr_does from trans desired _ comes is (purge_number_is g from trans key n)
+  clr_by_line_does from trans desired key (Ok (Some n)) comes is = raising_clr_does from trans desired _ comes is (purge_number_is g from trans key n)
   clr_by_line_does from trans desired key (Err fault) comes is = if_desired_does desired from _ tt
+
+  clr_by_lines_does : (from : Address) (trans : ℕ) (desired : Bool) (key : Option (List ℕ)) (number base : Result (Option ℕ) HtcpFault) → ComesFrom e from →
+      raise_in g e ≡ raise_by_lines g from trans key number base → Does (clr_by_lines g s from trans desired key number base)
+  unfolding clr_by_lines
+  clr_by_lines_does from trans desired key number (Ok None) comes is = clr_by_line_does from trans desired key number comes is
+  clr_by_lines_does from trans desired key number (Ok (Some n)) comes is =
+      raising_clr_does from trans desired _ comes is (base_number_is g from trans n number)
+  clr_by_lines_does from trans desired key number (Err fault) comes is = if_desired_does desired from _ tt
 
   icp_comes_does : (from : Address) (m : Icp) (now : ℕ) (o : IcpOp) → Does (icp_comes g s from m now mark o)
   unfolding icp_comes icp_query
@@ -485,22 +531,22 @@ module _ {X : Type 0} (g : Setting) (s : NodeState X) (e : Event X) (mark : X) w
   tst_obeys from trans true (Some c) = tt
   tst_obeys from trans false c = tt
 
-  htcp_comes_does : (from : Address) (trans now : ℕ) (content : Content) → ComesFrom e from → purge_in g e ≡ purge_in_content g from trans content →
+  htcp_comes_does : (from : Address) (trans now : ℕ) (content : Content) → ComesFrom e from → raise_in g e ≡ raise_in_content g from trans content →
       Does (htcp_comes g s from trans now mark content)
   unfolding htcp_comes htcp_tst htcp_clr
   htcp_comes_does from trans now (content.NopAsk desired) comes is = if_desired_does desired from _ tt
   htcp_comes_does from trans now content.NopAnswer comes is = silent
   htcp_comes_does from trans now (content.TstAsk desired spec) comes is = if_desired_does desired from _
-      (tst_obeys from trans (is_known g.roster g.id udp.Htcp from) (copy_meant g s spec now))
+      (tst_obeys from trans (answers_to g s udp.Htcp from) (copy_meant g s spec now))
   htcp_comes_does from trans now (content.TstHit detail) comes is = htcp_told_does from trans _ now
   htcp_comes_does from trans now (content.TstMiss cache) comes is = htcp_told_does from trans _ now
-  htcp_comes_does from trans now (content.ClrAsk desired reason spec) comes is = clr_by_line_does from trans desired _ _ comes is
+  htcp_comes_does from trans now (content.ClrAsk desired reason spec) comes is = clr_by_lines_does from trans desired _ _ _ comes is
   htcp_comes_does from trans now (content.ClrAnswer code) comes is = silent
   htcp_comes_does from trans now (content.Other opcode desired) comes is = if_desired_does desired from _ tt
   htcp_comes_does from trans now (content.Overall opcode code) comes is = tst_refused_does from trans opcode now
   htcp_comes_does from trans now (content.OtherAnswer opcode code) comes is = tst_refused_does from trans opcode now
 
-  datagram_does : (from : Address) (now : ℕ) (m : Message) → ComesFrom e from → purge_in g e ≡ purge_in_message g from m → Does (datagram g s from now mark m)
+  datagram_does : (from : Address) (now : ℕ) (m : Message) → ComesFrom e from → raise_in g e ≡ raise_in_message g from m → Does (datagram g s from now mark m)
   unfolding datagram
   datagram_does from now (message.Icp m) comes is = icp_comes_does from m now m.op
   datagram_does from now (message.Htcp m) comes is = htcp_comes_does from m.trans now m.content comes is

@@ -39,14 +39,17 @@ use Rattle.node_rules.specs.Known.{has_origin, is_known}
 use Rattle.node_rules.specs.State.{Setting, Stepped, inserted, changed, ended as without_block, changing, is_idle, is_of_block, fetch_serial}
 use Rattle.node_rules.specs.Fetching.{fetching, ask_peer, begin_read, read_origin, go_to, go_on}
 use Rattle.node_rules.specs.Asks.{IsBlock, new_ask, is_cached_only, free_block, taking, begin_round, begin_with_read, ask_around, begin_ask, begin_if_free}
-use Rattle.node_rules.specs.Asks.{not_held, by_copy, ask_comes}
+use Rattle.node_rules.specs.Asks.{not_held, by_copy, ask_comes_to, ask_comes}
 use Rattle.node_rules.specs.Arrivals.{is_fetch, not_fetching, with_round, use_answer, try_on, is_gateway_fault, peer_gave, origin_gave, from_peer}
 use Rattle.node_rules.specs.Arrivals.{peer_answer_to, peer_answer, foreign_answer, from_origin, origin_answer_to, origin_answer, fails, failure_of}
 use Rattle.node_rules.specs.Arrivals.{fetch_failed, round_moves, expires, expiry_of, round_expired}
-use Rattle.node_rules.specs.Datagrams.{purged, if_desired, icp_query, htcp_tst, hears, told_by, told_to, icp_told, htcp_told, purge, numbered_clr, dropped}
-use Rattle.node_rules.specs.Datagrams.{plain_clr, clr_by_line, htcp_clr, icp_comes, tst_refused, htcp_comes, datagram}
+use Rattle.node_rules.specs.Datagrams.{purged, if_desired, icp_query, htcp_tst, hears, told_by, told_to, icp_told, htcp_told, purge, dropped}
+use Rattle.node_rules.specs.Datagrams.{rebased, rebase, raising_clr, plain_clr, clr_by_line, clr_by_lines, htcp_clr, icp_comes, tst_refused}
+use Rattle.node_rules.specs.Datagrams.{htcp_comes, datagram}
 use Rattle.node_rules.specs.Step.{open_step, step_if, step}
-use Rattle.node_rules.specs.Relation.{Steps, ClosesOn, purge_in}
+use Rattle.node_rules.specs.declared.raising.Raise.{Raise}
+use Rattle.node_rules.specs.declared.raising.Raise.TheVariants.{Floor, Base}
+use Rattle.node_rules.specs.Relation.{Steps, ClosesOn, raise_in}
 use Rattle.node_rules.specs.Effect.{IsUnderWay}
 use Rattle.node_rules.specs.Serials.{Ascend, EndsFetch, KeepsFetch}
 use Rattle.node_rules.proofs.Cases.{branches, true_not_false}
@@ -235,7 +238,8 @@ module _ {X : Type 0} (g : Setting) (s : NodeState X) (e : Event X) (mark : X) (
             ]
         by_block r there busy false other = inr record {
           was = r;
-          waits = contained (λ (x : Pending X). is_of_block q.block x ≡ false → Contains (changed q s.pending) x) s.pending r (in_changed q s.pending) there other;
+          waits = contained (λ (x : Pending X). is_of_block q.block x ≡ false → Contains (changed q s.pending) x) s.pending r (in_changed q s.pending) there
+              other;
           fetch = refl;
           ask = refl;
           serial = refl;
@@ -258,8 +262,8 @@ module _ {X : Type 0} (g : Setting) (s : NodeState X) (e : Event X) (mark : X) (
         by_block r there busy false other = inr record {
           was = r;
           waits = subst (λ (l : List (Pending X)). Contains l r) (sym left)
-              (contained (λ (x : Pending X). is_of_block block x ≡ false → Contains (without_block block s.pending) x) s.pending r (in_ended block s.pending) there
-              other);
+              (contained (λ (x : Pending X). is_of_block block x ≡ false → Contains (without_block block s.pending) x) s.pending r
+              (in_ended block s.pending) there other);
           fetch = refl;
           ask = refl;
           serial = refl;
@@ -359,11 +363,16 @@ module _ {X : Type 0} (g : Setting) (s : NodeState X) (e : Event X) (mark : X) (
   begin_if_free_holds asker ask now None is = stays
   begin_if_free_holds asker ask now (Some block) is = ask_around_holds asker ask block now is _ _
 
-  ask_comes_holds : (asker : Option ℕ) (ask : Ask) (now : ℕ) (o : Option (WebCopy X)) → Holds (by_copy g s asker ask now mark o)
+  by_copy_holds : (asker : Option ℕ) (ask : Ask) (now : ℕ) (o : Option (WebCopy X)) → Holds (by_copy g s asker ask now mark o)
   unfolding by_copy not_held
-  ask_comes_holds asker ask now None =
+  by_copy_holds asker ask now None =
       branches Holds (is_cached_only g asker ask) _ _ (λ _. stays) (λ _. begin_if_free_holds asker ask now (free_block s) refl)
-  ask_comes_holds asker ask now (Some c) = same _ refl
+  by_copy_holds asker ask now (Some c) = same _ refl
+
+  ask_comes_holds : (asker : Option ℕ) (ask : Ask) (now : ℕ) (outside : Bool) → Holds (ask_comes_to g s asker ask now mark outside)
+  unfolding ask_comes_to
+  ask_comes_holds asker ask now true = stays
+  ask_comes_holds asker ask now false = by_copy_holds asker ask now _
 
   -- Arrivals
 
@@ -428,10 +437,15 @@ module _ {X : Type 0} (g : Setting) (s : NodeState X) (e : Event X) (mark : X) (
   unfolding purge
   purge_holds from trans desired key n = if_desired_holds (purged s key n) (same _ refl) desired from _
 
-  numbered_holds : (from : Address) (trans : ℕ) (desired : Bool) (o : Option (List ℕ × ℕ)) → Holds (numbered_clr s from trans desired o)
-  unfolding numbered_clr
-  numbered_holds from trans desired None = if_desired_holds s stays desired from _
-  numbered_holds from trans desired (Some x) = purge_holds from trans desired x.0 x.1
+  rebase_holds : (from : Address) (trans : ℕ) (desired : Bool) (n : ℕ) → Holds (rebase s from trans desired n)
+  unfolding rebase
+  rebase_holds from trans desired n = if_desired_holds (rebased s n) (same _ refl) desired from _
+
+  raising_holds : (from : Address) (trans : ℕ) (desired : Bool) (o : Option Raise) → Holds (raising_clr s from trans desired o)
+  unfolding raising_clr
+  raising_holds from trans desired None = if_desired_holds s stays desired from _
+  raising_holds from trans desired (Some (Floor key n)) = purge_holds from trans desired key n
+  raising_holds from trans desired (Some (Base n)) = rebase_holds from trans desired n
 
   dropped_holds : (key : Option (List ℕ)) → Sound (dropped s key)
   dropped_holds None = stays
@@ -447,8 +461,15 @@ module _ {X : Type 0} (g : Setting) (s : NodeState X) (e : Event X) (mark : X) (
       Holds (clr_by_line g s from trans desired key line)
   unfolding clr_by_line
   clr_by_line_holds from trans desired key (Ok None) = plain_clr_holds from trans desired key
-  clr_by_line_holds from trans desired key (Ok (Some n)) = numbered_holds from trans desired _
+  clr_by_line_holds from trans desired key (Ok (Some n)) = raising_holds from trans desired _
   clr_by_line_holds from trans desired key (Err fault) = if_desired_holds s stays desired from _
+
+  clr_by_lines_holds : (from : Address) (trans : ℕ) (desired : Bool) (key : Option (List ℕ)) (number base : Result (Option ℕ) HtcpFault) →
+      Holds (clr_by_lines g s from trans desired key number base)
+  unfolding clr_by_lines
+  clr_by_lines_holds from trans desired key number (Ok None) = clr_by_line_holds from trans desired key number
+  clr_by_lines_holds from trans desired key number (Ok (Some n)) = raising_holds from trans desired _
+  clr_by_lines_holds from trans desired key number (Err fault) = if_desired_holds s stays desired from _
 
   icp_comes_holds : (from : Address) (m : Icp) (now : ℕ) (o : IcpOp) → Holds (icp_comes g s from m now mark o)
   unfolding icp_comes icp_query icp_told
@@ -466,7 +487,7 @@ module _ {X : Type 0} (g : Setting) (s : NodeState X) (e : Event X) (mark : X) (
   htcp_comes_holds from trans now (content.TstAsk desired spec) = if_desired_holds s stays desired from _
   htcp_comes_holds from trans now (content.TstHit detail) = htcp_told_holds from trans _ now
   htcp_comes_holds from trans now (content.TstMiss cache) = htcp_told_holds from trans _ now
-  htcp_comes_holds from trans now (content.ClrAsk desired reason spec) = clr_by_line_holds from trans desired _ _
+  htcp_comes_holds from trans now (content.ClrAsk desired reason spec) = clr_by_lines_holds from trans desired _ _ _
   htcp_comes_holds from trans now (content.ClrAnswer code) = stays
   htcp_comes_holds from trans now (content.Other opcode desired) = if_desired_holds s stays desired from _
   htcp_comes_holds from trans now (content.Overall opcode code) = tst_refused_holds from trans opcode now
@@ -486,7 +507,8 @@ module _ {X : Type 0} (g : Setting) (s : NodeState X) (mark : X) (rise : Ascend 
   open_step_holds (event.Datagram from m now) = datagram_holds g s _ mark rise from now m
   open_step_holds (event.PeerAsk asker ask now) = ask_comes_holds g s _ mark rise (Some asker) ask now _
   open_step_holds (event.PeerAnswer serial peer key answer tag now) =
-      branches (λ (r : Stepped X). Sound g s (event.PeerAnswer serial peer key answer tag now) mark rise r.state) (is_foreign_id peer) _ _ (λ _. stays g s _ mark rise)
+      branches (λ (r : Stepped X). Sound g s (event.PeerAnswer serial peer key answer tag now) mark rise r.state) (is_foreign_id peer) _ _
+      (λ _. stays g s _ mark rise)
       (λ _. peer_answer_to_holds g s (event.PeerAnswer serial peer key answer tag now) mark rise serial peer _ key answer tag now (λ at is. is) _ refl)
   open_step_holds (event.OriginAnswer serial key answer now) =
       origin_answer_to_holds g s (event.OriginAnswer serial key answer now) mark rise serial key answer now (λ at is. is) _ refl
@@ -507,9 +529,9 @@ module _ {X : Type 0} (g : Setting) (s : NodeState X) (mark : X) (rise : Ascend 
   step_holds e = step_if_holds e s.closed
 
   -- a node that closes has no pending request
-  closed_apart : (e : Event X) (o : Option (List ℕ × ℕ)) (next : NodeState X) → ClosesOn s o next → Ascend 0 next.pending
+  closed_apart : (e : Event X) (o : Option Raise) (next : NodeState X) → ClosesOn s o next → Ascend 0 next.pending
   closed_apart e None next h = absurd h
-  closed_apart e (Some x) next h = subst (Ascend 0) (sym h.pending) tt
+  closed_apart e (Some raise) next h = subst (Ascend 0) (sym h.pending) tt
 
   record AllSound (e : Event X) (next : NodeState X) : Type 0 where
     apart : IsBlock s.next → Ascend 0 next.pending
@@ -522,8 +544,8 @@ module _ {X : Type 0} (g : Setting) (s : NodeState X) (mark : X) (rise : Ascend 
   steps_hold e outcome next steps =
       steps_case g s e mark (λ (r : Stepped X). AllSound e r.state) (all_sound e _ (step_holds e)) (all_sound e s (stays g s e mark rise))
       (λ n f closes. record {
-        apart = λ _. closed_apart e (purge_in g e) n closes.1;
-        keeps = λ is_open. absurd (closing_closes g s e mark (purge_in g e) n closes.1 is_open);
+        apart = λ _. closed_apart e (raise_in g e) n closes.1;
+        keeps = λ is_open. absurd (closing_closes g s e mark (raise_in g e) n closes.1 is_open);
       }) outcome next steps
 
 pub blocks_apart : {X : Type 0} (g : Setting) (s : NodeState X) (e : Event X) (mark : X) (outcome : Result (Reply X) StepFault) (next : NodeState X) →

@@ -37,14 +37,17 @@ use Rattle.node_rules.specs.Known.{has_origin, is_known}
 use Rattle.node_rules.specs.State.{Setting, Stepped, changing, ending, is_idle, is_of_block}
 use Rattle.node_rules.specs.Fetching.{fetching, ask_peer, begin_read, read_origin, go_to, go_on}
 use Rattle.node_rules.specs.Asks.{IsBlock, new_ask, is_cached_only, free_block, taking, begin_round, begin_with_read, ask_around, begin_ask, begin_if_free}
-use Rattle.node_rules.specs.Asks.{not_held, by_copy, ask_comes}
+use Rattle.node_rules.specs.Asks.{not_held, by_copy, ask_comes_to, ask_comes}
 use Rattle.node_rules.specs.Arrivals.{with_round, use_answer, try_on, is_gateway_fault, peer_gave, origin_gave, from_peer, peer_answer_to, peer_answer}
 use Rattle.node_rules.specs.Arrivals.{foreign_answer, from_origin, origin_answer_to, origin_answer, fails, failure_of, fetch_failed, round_moves, expires}
 use Rattle.node_rules.specs.Arrivals.{expiry_of, round_expired}
-use Rattle.node_rules.specs.Datagrams.{purged, if_desired, icp_query, htcp_tst, hears, told_by, told_to, icp_told, htcp_told, purge, numbered_clr, dropped}
-use Rattle.node_rules.specs.Datagrams.{plain_clr, clr_by_line, htcp_clr, icp_comes, tst_refused, htcp_comes, datagram}
+use Rattle.node_rules.specs.Datagrams.{purged, if_desired, icp_query, htcp_tst, hears, told_by, told_to, icp_told, htcp_told, purge, dropped}
+use Rattle.node_rules.specs.Datagrams.{rebased, rebase, raising_clr, plain_clr, clr_by_line, clr_by_lines, htcp_clr, icp_comes, tst_refused}
+use Rattle.node_rules.specs.Datagrams.{htcp_comes, datagram}
 use Rattle.node_rules.specs.Step.{open_step, step_if, step}
-use Rattle.node_rules.specs.Relation.{Steps, ClosesOn, purge_in}
+use Rattle.node_rules.specs.declared.raising.Raise.{Raise}
+use Rattle.node_rules.specs.declared.raising.Raise.TheVariants.{Floor, Base}
+use Rattle.node_rules.specs.Relation.{Steps, ClosesOn, raise_in}
 use Rattle.node_rules.proofs.Cases.{branches}
 use Rattle.node_rules.proofs.Stores.{length_filter}
 use Rattle.node_rules.proofs.Blocks.{length_inserted, after_is_block, room_of}
@@ -129,9 +132,14 @@ module _ {X : Type 0} (g : Setting) (s : NodeState X) (mark : X) where
   by_copy_few asker ask now None = not_held_few asker ask now
   by_copy_few asker ask now (Some c) = record { most = few.most; next = few.next }
 
+  ask_comes_to_few : (asker : Option ℕ) (ask : Ask) (now : ℕ) (outside : Bool) → Few (ask_comes_to g s asker ask now mark outside)
+  unfolding ask_comes_to
+  ask_comes_to_few asker ask now true = few
+  ask_comes_to_few asker ask now false = by_copy_few asker ask now _
+
   ask_comes_few : (asker : Option ℕ) (ask : Ask) (now : ℕ) → Few (ask_comes g s asker ask now mark)
   unfolding ask_comes
-  ask_comes_few asker ask now = by_copy_few asker ask now _
+  ask_comes_few asker ask now = ask_comes_to_few asker ask now _
 
   -- Arrivals
 
@@ -232,10 +240,15 @@ module _ {X : Type 0} (g : Setting) (s : NodeState X) (mark : X) where
   unfolding purge
   purge_few from trans desired key n = if_desired_few (purged s key n) (record { most = few.most; next = few.next }) desired from _
 
-  numbered_clr_few : (from : Address) (trans : ℕ) (desired : Bool) (o : Option (List ℕ × ℕ)) → Few (numbered_clr s from trans desired o)
-  unfolding numbered_clr
-  numbered_clr_few from trans desired None = if_desired_few s few desired from _
-  numbered_clr_few from trans desired (Some x) = purge_few from trans desired x.0 x.1
+  rebase_few : (from : Address) (trans : ℕ) (desired : Bool) (n : ℕ) → Few (rebase s from trans desired n)
+  unfolding rebase
+  rebase_few from trans desired n = if_desired_few (rebased s n) (record { most = few.most; next = few.next }) desired from _
+
+  raising_clr_few : (from : Address) (trans : ℕ) (desired : Bool) (o : Option Raise) → Few (raising_clr s from trans desired o)
+  unfolding raising_clr
+  raising_clr_few from trans desired None = if_desired_few s few desired from _
+  raising_clr_few from trans desired (Some (Floor key n)) = purge_few from trans desired key n
+  raising_clr_few from trans desired (Some (Base n)) = rebase_few from trans desired n
 
   dropped_few : (key : Option (List ℕ)) → FewWait s (dropped s key)
   dropped_few None = few
@@ -251,8 +264,15 @@ module _ {X : Type 0} (g : Setting) (s : NodeState X) (mark : X) where
       Few (clr_by_line g s from trans desired key line)
   unfolding clr_by_line
   clr_by_line_few from trans desired key (Ok None) = plain_clr_few from trans desired key
-  clr_by_line_few from trans desired key (Ok (Some n)) = numbered_clr_few from trans desired _
+  clr_by_line_few from trans desired key (Ok (Some n)) = raising_clr_few from trans desired _
   clr_by_line_few from trans desired key (Err fault) = if_desired_few s few desired from _
+
+  clr_by_lines_few : (from : Address) (trans : ℕ) (desired : Bool) (key : Option (List ℕ)) (number base : Result (Option ℕ) HtcpFault) →
+      Few (clr_by_lines g s from trans desired key number base)
+  unfolding clr_by_lines
+  clr_by_lines_few from trans desired key number (Ok None) = clr_by_line_few from trans desired key number
+  clr_by_lines_few from trans desired key number (Ok (Some n)) = raising_clr_few from trans desired _
+  clr_by_lines_few from trans desired key number (Err fault) = if_desired_few s few desired from _
 
   icp_comes_few : (from : Address) (m : Icp) (now : ℕ) (o : IcpOp) → Few (icp_comes g s from m now mark o)
   unfolding icp_comes icp_query icp_told
@@ -270,7 +290,7 @@ module _ {X : Type 0} (g : Setting) (s : NodeState X) (mark : X) where
   htcp_comes_few from trans now (content.TstAsk desired spec) = if_desired_few s few desired from _
   htcp_comes_few from trans now (content.TstHit detail) = htcp_told_few from trans _ now
   htcp_comes_few from trans now (content.TstMiss cache) = htcp_told_few from trans _ now
-  htcp_comes_few from trans now (content.ClrAsk desired reason spec) = clr_by_line_few from trans desired _ _
+  htcp_comes_few from trans now (content.ClrAsk desired reason spec) = clr_by_lines_few from trans desired _ _ _
   htcp_comes_few from trans now (content.ClrAnswer code) = few
   htcp_comes_few from trans now (content.Other opcode desired) = if_desired_few s few desired from _
   htcp_comes_few from trans now (content.Overall opcode code) = tst_refused_few from trans opcode now
@@ -306,9 +326,9 @@ module _ {X : Type 0} (g : Setting) (s : NodeState X) (mark : X) where
   step_few e = step_if_few e s.closed
 
 -- no request is pending at a node that has closed
-closed_few : {X : Type 0} (s : NodeState X) (o : Option (List ℕ × ℕ)) (next : NodeState X) → ClosesOn s o next → FewWait s next
+closed_few : {X : Type 0} (s : NodeState X) (o : Option Raise) (next : NodeState X) → ClosesOn s o next → FewWait s next
 closed_few s None next h = absurd h
-closed_few {X} s (Some x) next h = record {
+closed_few {X} s (Some raise) next h = record {
   most = λ few. subst (λ (asks : List (Pending X)). length asks ≤ 1024) (sym h.pending) (omega arith);
   next = λ is. subst IsBlock (sym h.block) is;
 }
@@ -316,4 +336,4 @@ closed_few {X} s (Some x) next h = record {
 pub asks_stay_few : {X : Type 0} (g : Setting) (s : NodeState X) (e : Event X) (mark : X) (outcome : Result (Reply X) StepFault) (next : NodeState X) →
     Steps g s e mark outcome next → FewWait s next
 asks_stay_few g s e mark outcome next steps =
-    steps_case g s e mark (λ r. FewWait s r.state) (step_few g s mark e) (same_few s) (λ n f closes. closed_few s (purge_in g e) n closes.1) outcome next steps
+    steps_case g s e mark (λ r. FewWait s r.state) (step_few g s mark e) (same_few s) (λ n f closes. closed_few s (raise_in g e) n closes.1) outcome next steps

@@ -1,7 +1,7 @@
 -- How a floor and its raise go together. A raise reaches the number, no floor falls, and a floor rises only to the
--- number, or to the base.
+-- number, or to the base. The same of a raise of the base.
 use Rattle.std.proofs.Common.{◌≡◌, ℕ, ◌<◌, ◌≤◌, Bool, true, false, cond, List, [], ◌∷◌, map, Option, Some, None, refl, sym, ◌∙◌, ap, subst, max, nat_le}
-use Rattle.std.proofs.Common.{unwrap_or, leb-true, leb-false, ltb-false, arith}
+use Rattle.std.proofs.Common.{unwrap_or, leb-true, leb-false, ltb-false, ◌⊎◌, inl, inr, arith}
 use Rattle.std.specs.Prelude.{bytes_eq, nat_lt, if◌then◌else◌}
 use Rattle.std.specs.Ordering.{nat_cmp, is_eq}
 use Rattle.std.specs.Cmp.Lexicographic.{slice_cmp, nat_list_cmp_total}
@@ -12,7 +12,7 @@ use Rattle.std.specs.declared.cmp.Ordering.TheVariants.{Less, Equal, Greater}
 use Rattle.std.proofs.lemmas.Map.Text.{is_eq-slice_cmp}
 use Rattle.std.proofs.lemmas.Slice.Eq.{bytes_eq-Decides}
 use Rattle.floor_rules.specs.Floors.{FloorRows, FloorTable, floor, row, seen, greatest, greatest_row, most_rows, with_row, base_only, raised_row, raised}
-use Rattle.floor_rules.specs.Floors.{new_base}
+use Rattle.floor_rules.specs.Floors.{new_base, with_base}
 use Rattle.floor_rules.proofs.MapLemmas.{greatest_empty}
 use Rattle.node_rules.proofs.Cases.{branches}
 
@@ -81,7 +81,8 @@ module _ (P : FloorTable → Type 0) (floors : FloorTable) (u : List ℕ) (n : �
   by_room true new full = new
   by_room false new full = full
 
-  by_base : (b : Bool) → nat_le n floors.base ≡ b → (n ≤ floors.base → P floors) → (floors.base < n → P (with_row floors u n)) → P (base_only (max (seen floors) n)) →
+  by_base : (b : Bool) → nat_le n floors.base ≡ b → (n ≤ floors.base → P floors) → (floors.base < n → P (with_row floors u n))
+      → P (base_only (max (seen floors) n)) →
       P (cond b floors (cond (nat_lt (len floors.rows) most_rows) (with_row floors u n) (base_only (max (seen floors) n))))
   by_base true is low new full = low (leb-true n floors.base is)
   by_base false is low new full = by_room (nat_lt (len floors.rows) most_rows) (new (leb-false n floors.base is)) full
@@ -170,3 +171,23 @@ seen-raise floors u n = raised_is (λ t. seen t ≤ max (seen floors) n) floors 
     (λ _. omega arith)
     (λ none up. omega (arith, greatest-insert floors.rows u n))
     (omega (arith, greatest_empty))
+
+-- the base stays, or rises to the number at least
+pub raise_base : (floors : FloorTable) (u : List ℕ) (n : ℕ) →
+    ((raised floors u n).base ≡ floors.base) ⊎ (floors.base ≤ (raised floors u n).base) × (n ≤ (raised floors u n).base)
+raise_base floors u n = raised_is (λ t. (t.base ≡ floors.base) ⊎ (floors.base ≤ t.base) × (n ≤ t.base)) floors u n
+    (λ r is. inl refl) (λ _. inl refl) (λ none up. inl refl) (inr (omega arith, omega arith))
+
+-- Raises of the base
+
+-- no floor falls
+pub rebase_rises : (floors : FloorTable) (v : List ℕ) (n : ℕ) → floor floors v ≤ floor (with_base floors n) v
+rebase_rises floors v n = omega arith
+
+-- a floor rises to the number at most
+pub rebase_bound : (floors : FloorTable) (v : List ℕ) (n : ℕ) → floor (with_base floors n) v ≤ max (floor floors v) n
+rebase_bound floors v n = omega arith
+
+-- and so does the greatest
+pub seen-rebase : (floors : FloorTable) (n : ℕ) → seen (with_base floors n) ≤ max (seen floors) n
+seen-rebase floors n = omega arith

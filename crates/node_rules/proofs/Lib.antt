@@ -1,7 +1,7 @@
--- In reading order. Effects shows that the step has one of five effects; it takes most of the work,
+-- In reading order. Effects shows that the step has one of six effects; it takes most of the work,
 -- and uses Cases, FloorLaws, Stores, Pendings and Blocks. Kept says what each effect keeps. Stepping
 -- carries this from the function to the relation, and Lawful puts the law together. Questions,
--- FewAsks, Fetches and the Tag files each prove one law on their own, rule by rule. Answerable is of received
+-- Outside, FewAsks, Fetches and the Tag files each prove one law on their own, rule by rule. Answerable is of received
 -- messages.
 pub mod Cases
 pub mod FloorLaws
@@ -12,6 +12,7 @@ pub mod Effects
 pub mod Kept
 pub mod Stepping
 pub mod Questions
+pub mod Outside
 pub mod Lawful
 pub mod FewAsks
 pub mod Fetches

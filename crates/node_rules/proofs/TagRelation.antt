@@ -1,30 +1,31 @@
 -- The relation never looks at tags either: the function does not, and the rule of closing keeps
 -- copies by their stamps alone and leaves no request.
-use Rattle.std.proofs.Common.{◌≡◌, ℕ, List, map, Option, Some, None, Result, Ok, Err, refl, sym, ◌∙◌, ap, subst, inl, inr}
+use Rattle.std.proofs.Common.{◌≡◌, map, Option, Some, None, Result, Ok, Err, refl, sym, ◌∙◌, ap, subst, inl, inr}
 use Rattle.node_rules.specs.declared.state.NodeState.{NodeState}
 use Rattle.node_rules.specs.declared.event.Event.{Event}
 use Rattle.node_rules.specs.declared.event.Event.TheVariants as event
 use Rattle.node_rules.specs.declared.reply.Reply.{Reply}
 use Rattle.node_rules.specs.declared.reply.StepFault.{StepFault}
 use Rattle.node_rules.specs.declared.reply.StepFault.TheVariants as fault
-use Rattle.floor_rules.specs.Floors.{new_base}
+use Rattle.node_rules.specs.declared.raising.Raise.{Raise}
+use Rattle.node_rules.specs.Raises.{least_by}
 use Rattle.node_rules.specs.State.{Setting}
-use Rattle.node_rules.specs.Relation.{Steps, Closes, ClosesOn, purge_in}
+use Rattle.node_rules.specs.Relation.{Steps, Closes, ClosesOn, raise_in}
 use Rattle.node_rules.specs.Tags.{retag_copy, retag_pending, retag_state, retag_event, retag_outcome, retag_stepped}
 use Rattle.node_rules.proofs.TagLists.{without_all_below-retag}
 use Rattle.node_rules.proofs.TagSteps.{step-retag}
 
 module _ {X Y : Type 0} (f : X → Y) (g : Setting) (s : NodeState X) where
-  purge_in-retag : (e : Event X) → purge_in g (retag_event f e) ≡ purge_in g e
-  purge_in-retag (event.Datagram from message now) = refl
-  purge_in-retag _ = refl
+  raise_in-retag : (e : Event X) → raise_in g (retag_event f e) ≡ raise_in g e
+  raise_in-retag (event.Datagram from message now) = refl
+  raise_in-retag _ = refl
 
-  closes_on-retag : (o : Option (List ℕ × ℕ)) (next : NodeState X) → ClosesOn s o next → ClosesOn (retag_state f s) o (retag_state f next)
+  closes_on-retag : (o : Option Raise) (next : NodeState X) → ClosesOn s o next → ClosesOn (retag_state f s) o (retag_state f next)
   closes_on-retag None next h = h
-  closes_on-retag (Some x) next h = record {
+  closes_on-retag (Some raise) next h = record {
     closed = h.closed;
     pending = ap (map (retag_pending f)) h.pending;
-    copies = ap (map (retag_copy f)) h.copies ∙ sym (without_all_below-retag f (new_base s.floors x.0 x.1) s.copies);
+    copies = ap (map (retag_copy f)) h.copies ∙ sym (without_all_below-retag f (least_by raise s.floors) s.copies);
     block = h.block;
     floors = h.floors;
   }
@@ -32,8 +33,8 @@ module _ {X Y : Type 0} (f : X → Y) (g : Setting) (s : NodeState X) where
   closes-retag : (e : Event X) (next : NodeState X) → Closes g s e next → Closes g (retag_state f s) (retag_event f e) (retag_state f next)
   closes-retag e next h = (
     h.0,
-    subst (λ o. ClosesOn (retag_state f s) o (retag_state f next)) (sym (purge_in-retag e))
-        (closes_on-retag (purge_in g e) next h.1),
+    subst (λ o. ClosesOn (retag_state f s) o (retag_state f next)) (sym (raise_in-retag e))
+        (closes_on-retag (raise_in g e) next h.1),
   )
 
   pub steps-retag : (e : Event X) (mark : X) (outcome : Result (Reply X) StepFault) (next : NodeState X) → Steps g s e mark outcome next →

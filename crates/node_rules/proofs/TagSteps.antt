@@ -2,7 +2,7 @@
 -- One lemma for each rule, in the order of specs/; each test in a rule gives the same with other
 -- tags.
 use Rattle.std.proofs.Common.{◌≡◌, ℕ, ◌+◌, Bool, true, false, not, ◌&&◌, ◌||◌, cond, List, [], ◌∷◌, ◌++◌, Option, Some, None, refl, nat_le, nat_eq, max, ap}
-use Rattle.std.proofs.Common.{unwrap_or}
+use Rattle.std.proofs.Common.{unwrap_or, nat_lt}
 use Rattle.std.specs.Prelude.{bytes_eq}
 use Rattle.values_plain.specs.declared.address.Address.{Address}
 use Rattle.values_plain.specs.declared.address.Udp.{Udp}
@@ -28,7 +28,7 @@ use Rattle.node_rules.specs.declared.state.Pending.{Pending}
 use Rattle.node_rules.specs.declared.state.NodeState.{NodeState}
 use Rattle.node_rules.specs.declared.event.Event.{Event}
 use Rattle.node_rules.specs.declared.event.Event.TheVariants as event
-use Rattle.floor_rules.specs.Floors.{FloorTable, floor, seen, raised, new_base}
+use Rattle.floor_rules.specs.Floors.{FloorTable, floor, seen, raised, new_base, with_base}
 use Rattle.values_tables.specs.Ranges.{is_foreign_id}
 use Rattle.roster.specs.Lookups.{is_master}
 use Rattle.node_rules.specs.Known.{has_origin, is_known}
@@ -37,25 +37,29 @@ use Rattle.object_store.specs.Listed.{copy_of, without_below, without_all_below}
 use Rattle.object_store.specs.Held.{is_older_than}
 use Rattle.reuse_rules.specs.Lifetime.{lifetime}
 use Rattle.htcp_wire.specs.declared.fault.HtcpFault.{HtcpFault}
-use Rattle.htcp_wire.specs.declared.numbers.HeaderKind.TheVariants.{PurgeNumber}
+use Rattle.htcp_wire.specs.declared.numbers.HeaderKind.TheVariants.{PurgeNumber, PurgeBase}
 use Rattle.htcp_wire.specs.Numbers.{number_in_text}
 use Rattle.values_plain.specs.declared.address.Udp.TheVariants as udp
 use Rattle.node_rules.specs.State.{Setting, Stepped, is_idle, good_copy, served_age, round_serial, fetch_serial}
 use Rattle.node_rules.specs.Fetching.{ask_peer, begin_read, read_origin, go_to, go_on, choice_of}
 use Rattle.node_rules.specs.Asks.{is_cached_only, free_block, block_after, begin_round, begin_with_read, ask_around, begin_ask, begin_if_free, not_held}
-use Rattle.node_rules.specs.Asks.{by_copy, copy_for, ask_comes, peers_to_ask}
+use Rattle.node_rules.specs.Asks.{by_copy, copy_for, ask_comes_to, ask_comes, peers_to_ask}
+use Rattle.node_rules.specs.declared.raising.Raise.{Raise}
+use Rattle.node_rules.specs.declared.raising.Raise.TheVariants.{Floor, Base}
+use Rattle.node_rules.specs.Raises.{left_by}
 use Rattle.node_rules.specs.Arrivals.{stored, not_fetching, use_answer, try_on, is_gateway_fault, peer_gave, origin_gave, is_fetch, from_peer, peer_answer_to}
 use Rattle.node_rules.specs.Arrivals.{peer_answer, foreign_answer, from_origin, origin_answer_to, origin_answer, fails, failure_of, fetch_failed, with_round}
 use Rattle.node_rules.specs.Arrivals.{round_moves, expires, expiry_of, round_expired}
 use Rattle.node_rules.specs.Datagrams.{if_desired, icp_query, htcp_tst, hears, told_by, told_to, peer_at, icp_told, icp_said, is_key, htcp_told, clr_done}
-use Rattle.node_rules.specs.Datagrams.{purge, purge_of, numbered_clr, held, dropped, left_by, plain_clr, clr_by_line, htcp_clr, icp_comes, tst_refused}
+use Rattle.node_rules.specs.Datagrams.{purge, rebase, holds_older, purge_of, base_alone, raising_clr, held, dropped, plain_clr, clr_by_line, clr_by_lines}
+use Rattle.node_rules.specs.Datagrams.{htcp_clr, icp_comes, tst_refused}
 use Rattle.node_rules.specs.Datagrams.{htcp_comes, datagram}
 use Rattle.node_rules.specs.Step.{open_step, step_if, step}
 use Rattle.std.specs.Prelude.{option_map, is_some}
 use Rattle.std.proofs.Common.{◌∙◌}
 use Rattle.node_rules.specs.Arrivals.{new_copy}
 use Rattle.std.specs.Prelude.{codes, map, find, Result, Ok, Err}
-use Rattle.std.specs.List.{filter_map}
+use Rattle.std.specs.List.{filter_map, list_any}
 use Rattle.std.proofs.Common.{◌*◌}
 use Rattle.node_rules.specs.declared.reply.Reply.{Reply}
 use Rattle.node_rules.specs.declared.reply.Begin.TheVariants as begin
@@ -63,7 +67,7 @@ use Rattle.node_rules.specs.declared.reply.Served.TheVariants.{Copy, Status}
 use Rattle.node_rules.specs.Messages.{icp, htcp, overall}
 use Rattle.node_rules.specs.Fetching.{fetching, origin_ask, peer_ask, own_id}
 use Rattle.node_rules.specs.Asks.{new_ask, question_to, taking}
-use Rattle.node_rules.specs.Datagrams.{sends_back, icp_answer, hit_or_miss, tst_answer, copy_at, copy_meant, purged, clr_code}
+use Rattle.node_rules.specs.Datagrams.{answers_to, sends_back, icp_answer, hit_or_miss, tst_answer, copy_at, copy_meant, purged, rebased, clr_code}
 use Rattle.node_rules.specs.Effect.{state_of}
 use Rattle.node_rules.specs.State.{replies, with_copies, with_pending, changing, ending, serving, beginning, quiet}
 use Rattle.node_rules.specs.Tags.{retag_copy, retag_fetch, retag_pending, retag_state, retag_event, retag_reply, retag_stepped}
@@ -170,11 +174,17 @@ module _ {X Y : Type 0} (f : X → Y) (g : Setting) where
   by_copy-retag s asker ask now mark (Some c) =
       ap (λ cs. replies (with_copies (retag_state f s) cs) (serving None asker (Copy (retag_copy f c) (served_age c now)))) (to_front-retag f ask.key s.copies)
 
+  ask_comes_to-retag : (s : NodeState X) (asker : Option ℕ) (ask : Ask) (now : ℕ) (mark : X) (outside : Bool) →
+      ask_comes_to g (retag_state f s) asker ask now (f mark) outside ≡ to (ask_comes_to g s asker ask now mark outside)
+  unfolding ask_comes_to
+  ask_comes_to-retag s asker ask now mark true = refl
+  ask_comes_to-retag s asker ask now mark false =
+      ap (by_copy g (retag_state f s) asker ask now (f mark)) (copy_for-retag f s ask now) ∙ by_copy-retag s asker ask now mark (copy_for s ask now)
+
   ask_comes-retag : (s : NodeState X) (asker : Option ℕ) (ask : Ask) (now : ℕ) (mark : X) →
       ask_comes g (retag_state f s) asker ask now (f mark) ≡ to (ask_comes g s asker ask now mark)
   unfolding ask_comes
-  ask_comes-retag s asker ask now mark =
-      ap (by_copy g (retag_state f s) asker ask now (f mark)) (copy_for-retag f s ask now) ∙ by_copy-retag s asker ask now mark (copy_for s ask now)
+  ask_comes-retag s asker ask now mark = ask_comes_to-retag s asker ask now mark _
 
   -- Arrivals
 
@@ -376,13 +386,14 @@ module _ {X Y : Type 0} (f : X → Y) (g : Setting) where
   copy_meant-retag : (s : NodeState X) (spec : Specifier) (now : ℕ) → copy_meant g (retag_state f s) spec now ≡ option_map (retag_copy f)
       (copy_meant g s spec now)
   copy_meant-retag s spec now =
-      both_ways (option_map (retag_copy f)) (bytes_eq spec.method (codes "GET")) (copy_at s now (g.key_of spec.uri)) None _ _ (copy_at-retag s now (g.key_of spec.uri)) refl
+      both_ways (option_map (retag_copy f)) (bytes_eq spec.method (codes "GET")) (copy_at s now (g.key_of spec.uri)) None _ _
+      (copy_at-retag s now (g.key_of spec.uri)) refl
 
   htcp_tst-retag : (s : NodeState X) (from : Address) (trans : ℕ) (desired : Bool) (spec : Specifier) (now : ℕ) →
       htcp_tst g (retag_state f s) from trans desired spec now ≡ to (htcp_tst g s from trans desired spec now)
   unfolding htcp_tst
   htcp_tst-retag s from trans desired spec now =
-      ap (λ c. if_desired (retag_state f s) desired from (cond (is_known g.roster g.id udp.Htcp from) (htcp trans c) (overall trans 1 5)))
+      ap (λ c. if_desired (retag_state f s) desired from (cond (answers_to g s udp.Htcp from) (htcp trans c) (overall trans 1 5)))
       (ap tst_answer (copy_meant-retag s spec now) ∙ tst_answer-retag (copy_meant g s spec now))
       ∙ if_desired-retag s desired from _
 
@@ -407,11 +418,26 @@ module _ {X Y : Type 0} (f : X → Y) (g : Setting) where
       (htcp trans (content.ClrAnswer (clr_code (is_older_than least (copy_of key s.copies)))))) (left_by-retag s.floors key n s.copies)
       ∙ if_desired-retag (purged s key n) desired from _
 
-  numbered_clr-retag : (s : NodeState X) (from : Address) (trans : ℕ) (desired : Bool) (o : Option (List ℕ × ℕ)) →
-      numbered_clr (retag_state f s) from trans desired o ≡ to (numbered_clr s from trans desired o)
-  unfolding numbered_clr
-  numbered_clr-retag s from trans desired None = if_desired-retag s desired from _
-  numbered_clr-retag s from trans desired (Some x) = purge-retag s from trans desired x.0 x.1
+  holds_older-retag : (n : ℕ) (copies : List (WebCopy X)) →
+      list_any (λ (c : WebCopy Y). nat_lt c.stamp n) (map (retag_copy f) copies) ≡ list_any (λ (c : WebCopy X). nat_lt c.stamp n) copies
+  holds_older-retag n [] = refl
+  holds_older-retag n (c ∷ copies) = ap (λ b. nat_lt c.stamp n || b) (holds_older-retag n copies)
+
+  rebase-retag : (s : NodeState X) (from : Address) (trans : ℕ) (desired : Bool) (n : ℕ) →
+      rebase (retag_state f s) from trans desired n ≡ to (rebase s from trans desired n)
+  unfolding rebase
+  rebase-retag s from trans desired n =
+      ap (clr_done (rebased (retag_state f s) n) from trans desired) (holds_older-retag n s.copies)
+      ∙ ap (λ cs. if_desired (state_of (with_base s.floors n) cs s.closed (map (retag_pending f) s.pending) s.next) desired from
+      (htcp trans (content.ClrAnswer (clr_code (holds_older s n))))) (without_all_below-retag f n s.copies)
+      ∙ if_desired-retag (rebased s n) desired from _
+
+  raising_clr-retag : (s : NodeState X) (from : Address) (trans : ℕ) (desired : Bool) (o : Option Raise) →
+      raising_clr (retag_state f s) from trans desired o ≡ to (raising_clr s from trans desired o)
+  unfolding raising_clr
+  raising_clr-retag s from trans desired None = if_desired-retag s desired from _
+  raising_clr-retag s from trans desired (Some (Floor key n)) = purge-retag s from trans desired key n
+  raising_clr-retag s from trans desired (Some (Base n)) = rebase-retag s from trans desired n
 
   dropped-retag : (s : NodeState X) (key : Option (List ℕ)) → dropped (retag_state f s) key ≡ retag_state f (dropped s key)
   dropped-retag s None = refl
@@ -435,14 +461,21 @@ module _ {X Y : Type 0} (f : X → Y) (g : Setting) where
       clr_by_line g (retag_state f s) from trans desired key line ≡ to (clr_by_line g s from trans desired key line)
   unfolding clr_by_line
   clr_by_line-retag s from trans desired key (Ok None) = plain_clr-retag s from trans desired key
-  clr_by_line-retag s from trans desired key (Ok (Some n)) = numbered_clr-retag s from trans desired (purge_of g from trans key n)
+  clr_by_line-retag s from trans desired key (Ok (Some n)) = raising_clr-retag s from trans desired (purge_of g from trans key n)
   clr_by_line-retag s from trans desired key (Err fault) = if_desired-retag s desired from _
+
+  clr_by_lines-retag : (s : NodeState X) (from : Address) (trans : ℕ) (desired : Bool) (key : Option (List ℕ)) (number base : Result (Option ℕ) HtcpFault) →
+      clr_by_lines g (retag_state f s) from trans desired key number base ≡ to (clr_by_lines g s from trans desired key number base)
+  unfolding clr_by_lines
+  clr_by_lines-retag s from trans desired key number (Ok None) = clr_by_line-retag s from trans desired key number
+  clr_by_lines-retag s from trans desired key number (Ok (Some n)) = raising_clr-retag s from trans desired (base_alone g from trans n number)
+  clr_by_lines-retag s from trans desired key number (Err fault) = if_desired-retag s desired from _
 
   icp_comes-retag : (s : NodeState X) (from : Address) (m : Icp) (now : ℕ) (mark : X) (o : IcpOp) →
       icp_comes g (retag_state f s) from m now (f mark) o ≡ to (icp_comes g s from m now mark o)
   unfolding icp_comes icp_query
   icp_comes-retag s from m now mark op.Query =
-      ap (λ o. sends_back (retag_state f s) from (icp o m.number m.url)) (icp_answer-retag (is_known g.roster g.id udp.Icp from) s now (g.key_of m.url))
+      ap (λ o. sends_back (retag_state f s) from (icp o m.number m.url)) (icp_answer-retag (answers_to g s udp.Icp from) s now (g.key_of m.url))
   icp_comes-retag s from m now mark _ = icp_told-retag s from m now mark
 
   tst_refused-retag : (s : NodeState X) (from : Address) (trans opcode now : ℕ) (mark : X) →
@@ -458,8 +491,8 @@ module _ {X Y : Type 0} (f : X → Y) (g : Setting) where
   htcp_comes-retag s from trans now mark (content.TstAsk desired spec) = htcp_tst-retag s from trans desired spec now
   htcp_comes-retag s from trans now mark (content.TstHit detail) = htcp_told-retag s from trans _ now mark
   htcp_comes-retag s from trans now mark (content.TstMiss cache) = htcp_told-retag s from trans _ now mark
-  htcp_comes-retag s from trans now mark (content.ClrAsk desired reason spec) = clr_by_line-retag s from trans desired (g.key_of spec.uri)
-      (number_in_text spec.request_headers PurgeNumber)
+  htcp_comes-retag s from trans now mark (content.ClrAsk desired reason spec) = clr_by_lines-retag s from trans desired (g.key_of spec.uri)
+      (number_in_text spec.request_headers PurgeNumber) (number_in_text spec.request_headers PurgeBase)
   htcp_comes-retag s from trans now mark (content.ClrAnswer code) = refl
   htcp_comes-retag s from trans now mark (content.Other opcode desired) = if_desired-retag s desired from _
   htcp_comes-retag s from trans now mark (content.Overall opcode code) = tst_refused-retag s from trans opcode now mark

@@ -1,5 +1,6 @@
 -- A client's or a member's request arrives. The rule is `ask_comes`, at the end.
-use Rattle.std.specs.Prelude.{ℕ, zero, suc, ◌+◌, ◌≤◌, Bool, false, ◌||◌, nat_le, nat_lt, List, [], ◌∷◌, length, Option, Some, None, option_map, if◌then◌else◌}
+use Rattle.std.specs.Prelude.{ℕ, zero, suc, ◌+◌, ◌≤◌, Bool, true, false, ◌||◌, nat_le, nat_lt, List, [], ◌∷◌, length, Option, Some, None, option_map}
+use Rattle.std.specs.Prelude.{if◌then◌else◌}
 use Rattle.std.specs.List.{filter_map, list_any}
 use Rattle.http_messages.specs.declared.ask.Ask.{Ask}
 use Rattle.object_store.specs.declared.copy.WebCopy.{WebCopy}
@@ -18,8 +19,8 @@ use Rattle.node_rules.specs.declared.reply.Begin.TheVariants as begin
 use Rattle.node_rules.specs.declared.reply.StepFault.TheVariants.{Busy}
 use Rattle.node_rules.specs.Messages.{to, query}
 use Rattle.node_rules.specs.Known.{cache_of, has_origin}
-use Rattle.node_rules.specs.State.{Setting, Stepped, replies, refuses, beginning, serving, with_copies, is_of_block, adding, good_copy, served_age}
-use Rattle.node_rules.specs.State.{round_serial, fetch_serial}
+use Rattle.node_rules.specs.State.{Setting, Stepped, replies, refuses, beginning, serving, is_outside, with_copies, is_of_block, adding, good_copy}
+use Rattle.node_rules.specs.State.{served_age, round_serial, fetch_serial}
 use Rattle.node_rules.specs.Fetching.{fetching, origin_ask}
 
 -- The entry of the member that sent the request names this node a sibling.
@@ -151,7 +152,12 @@ by_copy g s asker ask now mark None = not_held g s asker ask now mark
 abbrev pub copy_for : {X : Type 0} → NodeState X → Ask → ℕ → Option (WebCopy X)
 copy_for s ask now = if ask.no_cache then None else good_copy s ask.key now
 
--- A held copy is served. Else a request to the store alone gets 504 (RFC 9111, section 5.2.1.7).
--- Else the node is `Busy`, or a round or an origin read begins.
+-- At an outside node or at another. An outside one serves 503 (RFC 9110, section 15.6.4). [Ask 6]
+unfoldable pub ask_comes_to : {X : Type 0} → Setting → NodeState X → Option ℕ → Ask → ℕ → X → Bool → Stepped X
+ask_comes_to g s asker ask now mark true = replies s (serving None asker (Status 503))
+ask_comes_to g s asker ask now mark false = by_copy g s asker ask now mark (copy_for s ask now)
+
+-- An outside node serves 503. Else a held copy is served. Else a request to the store alone gets 504
+-- (RFC 9111, section 5.2.1.7). Else the node is `Busy`, or a round or an origin read begins.
 unfoldable pub ask_comes : {X : Type 0} → Setting → NodeState X → Option ℕ → Ask → ℕ → X → Stepped X
-ask_comes g s asker ask now mark = by_copy g s asker ask now mark (copy_for s ask now)
+ask_comes g s asker ask now mark = ask_comes_to g s asker ask now mark (is_outside g s)

@@ -1,6 +1,7 @@
 -- A datagram arrives: queries, answers to a round, purges. The rule is `datagram`, at the end.
-use Rattle.std.specs.Prelude.{ℕ, Bool, true, false, ◌&&◌, ◌||◌, ◌==◌, max, nat_le, bytes_eq, List, [], ◌∷◌, find, is_some, Option, Some, None, Result, Ok, Err}
-use Rattle.std.specs.Prelude.{codes, if◌then◌else◌}
+use Rattle.std.specs.Prelude.{ℕ, Bool, true, false, not, ◌&&◌, ◌||◌, ◌==◌, max, nat_le, nat_lt, bytes_eq, List, [], ◌∷◌, find, is_some, Option, Some, None}
+use Rattle.std.specs.Prelude.{Result, Ok, Err, codes, if◌then◌else◌}
+use Rattle.std.specs.List.{list_any}
 use Rattle.icp_wire.specs.declared.message.Icp.{Icp}
 use Rattle.icp_wire.specs.declared.message.IcpOp.{IcpOp}
 use Rattle.icp_wire.specs.declared.message.IcpOp.TheVariants as op
@@ -8,13 +9,13 @@ use Rattle.htcp_wire.specs.declared.message.Specifier.{Specifier}
 use Rattle.htcp_wire.specs.declared.message.Content.{Content}
 use Rattle.htcp_wire.specs.declared.message.Content.TheVariants as content
 use Rattle.htcp_wire.specs.declared.fault.HtcpFault.{HtcpFault}
-use Rattle.htcp_wire.specs.declared.numbers.HeaderKind.TheVariants.{PurgeNumber, PurgeStamp}
+use Rattle.htcp_wire.specs.declared.numbers.HeaderKind.TheVariants.{PurgeNumber, PurgeStamp, PurgeBase}
 use Rattle.htcp_wire.specs.Grammar.{tst, clr, not_allowed, not_implemented, was_dropped, was_not_held}
 use Rattle.htcp_wire.specs.Numbers.{number_in_text}
 use Rattle.object_store.specs.declared.copy.WebCopy.{WebCopy}
-use Rattle.object_store.specs.Listed.{copy_of, without, without_all_below, without_below}
+use Rattle.object_store.specs.Listed.{copy_of, without, without_all_below}
 use Rattle.object_store.specs.Held.{is_older_than}
-use Rattle.floor_rules.specs.Floors.{FloorTable, new_base, raised}
+use Rattle.floor_rules.specs.Floors.{new_base, raised, with_base}
 use Rattle.values_tables.specs.Ranges.{is_foreign_id}
 use Rattle.values_plain.specs.declared.address.Address.{Address}
 use Rattle.values_plain.specs.declared.address.Udp.{Udp}
@@ -26,11 +27,14 @@ use Rattle.peer_chooser.specs.declared.said.Said.TheVariants as said
 use Rattle.peer_chooser.specs.Round.{RoundText, has_answered, answered}
 use Rattle.node_rules.specs.declared.message.Message.{Message}
 use Rattle.node_rules.specs.declared.message.Message.TheVariants as message
+use Rattle.node_rules.specs.declared.raising.Raise.{Raise}
+use Rattle.node_rules.specs.declared.raising.Raise.TheVariants.{Floor, Base}
 use Rattle.node_rules.specs.declared.state.Pending.{Pending}
 use Rattle.node_rules.specs.declared.state.NodeState.{NodeState}
 use Rattle.node_rules.specs.Messages.{icp, htcp, to, stamp_line, overall}
 use Rattle.node_rules.specs.Known.{is_peer_at, is_known}
-use Rattle.node_rules.specs.State.{Setting, Stepped, replies, quiet, sending, with_copies, good_copy, round_serial}
+use Rattle.node_rules.specs.State.{Setting, Stepped, replies, quiet, sending, is_outside, with_copies, good_copy, round_serial}
+use Rattle.node_rules.specs.Raises.{left_by}
 use Rattle.node_rules.specs.Arrivals.{with_round, round_moves}
 
 -- This message goes back to the sender.
@@ -44,13 +48,17 @@ if_desired s false from m = replies s quiet
 
 -- Queries: an ICP QUERY (RFC 2186, "ICP_OP_QUERY"), an HTCP TST (RFC 2756, "TST")
 
+-- The sender's queries are answered: the node knows it, and is not outside. [Query 1, Query 2]
+abbrev pub answers_to : {X : Type 0} → Setting → NodeState X → Udp → Address → Bool
+answers_to g s by from = not (is_outside g s) && is_known g.roster g.id by from
+
 -- HIT if there is a copy, MISS if there is none.
 abbrev pub hit_or_miss : {X : Type 0} → Option (WebCopy X) → IcpOp
 hit_or_miss None = op.Miss
 hit_or_miss (Some c) = op.Hit
 
--- DENIED to an unknown sender, ERR if the URL has no key, else HIT or MISS by whether a copy may be
--- served. [Query 1]
+-- DENIED if the sender gets no answer, ERR if the URL has no key, else HIT or MISS by whether a copy may
+-- be served. [Query 1]
 abbrev pub icp_answer : {X : Type 0} → Bool → NodeState X → ℕ → Option (List ℕ) → IcpOp
 icp_answer false s now key = op.Denied
 icp_answer true s now None = op.Error
@@ -59,7 +67,7 @@ icp_answer true s now (Some key) = hit_or_miss (good_copy s key now)
 -- A QUERY arrives. The response repeats number and URL, and the store keeps its order. [Query 1]
 unfoldable pub icp_query : {X : Type 0} → Setting → NodeState X → Address → Icp → ℕ → Stepped X
 icp_query g s from m now =
-    sends_back s from (icp (icp_answer (is_known g.roster g.id udp.Icp from) s now (g.key_of m.url)) m.number m.url)
+    sends_back s from (icp (icp_answer (answers_to g s udp.Icp from) s now (g.key_of m.url)) m.number m.url)
 
 -- The TST response that tells a copy's stamp.
 abbrev pub tst_hit : ℕ → Content
@@ -79,11 +87,12 @@ copy_at s now (Some key) = good_copy s key now
 abbrev pub copy_meant : {X : Type 0} → Setting → NodeState X → Specifier → ℕ → Option (WebCopy X)
 copy_meant g s spec now = if bytes_eq spec.method (codes "GET") then copy_at s now (g.key_of spec.uri) else None
 
--- A TST arrives. An unknown sender gets the overall code 5, any other whether a copy may be served. [Query 2]
+-- A TST arrives. A sender whose queries are not answered gets the overall code 5, any other whether a copy
+-- may be served. [Query 2]
 unfoldable pub htcp_tst : {X : Type 0} → Setting → NodeState X → Address → ℕ → Bool → Specifier → ℕ → Stepped X
 htcp_tst g s from trans desired spec now =
     if_desired s desired from
-    (if is_known g.roster g.id udp.Htcp from then htcp trans (tst_answer (copy_meant g s spec now))
+    (if answers_to g s udp.Htcp from then htcp trans (tst_answer (copy_meant g s spec now))
     else overall trans tst not_allowed)
 
 -- Answers of peers to a round
@@ -166,11 +175,6 @@ clr_refused s from trans desired = if_desired s desired from (overall trans clr 
 abbrev pub clr_done : {X : Type 0} → NodeState X → Address → ℕ → Bool → Bool → Stepped X
 clr_done s from trans desired dropped = if_desired s desired from (htcp trans (content.ClrAnswer (clr_code dropped)))
 
--- The copies that a raise leaves: no copy of the key below the number, and, where the base rises, none at all below
--- the base. [Purge 3]
-abbrev pub left_by : {X : Type 0} → FloorTable → List ℕ → ℕ → List (WebCopy X) → List (WebCopy X)
-left_by floors key n copies = without_all_below (new_base floors key n) (without_below key n copies)
-
 -- The state after a purge: the key's floor is raised, and no copy below its floor is held. [Purge 2]
 abbrev pub purged : {X : Type 0} → NodeState X → List ℕ → ℕ → NodeState X
 purged s key n = record s { floors = raised s.floors key n; copies = left_by s.floors key n s.copies }
@@ -181,17 +185,42 @@ unfoldable pub purge : {X : Type 0} → NodeState X → Address → ℕ → Bool
 purge s from trans desired key n =
     clr_done (purged s key n) from trans desired (is_older_than (max n (new_base s.floors key n)) (copy_of key s.copies))
 
--- The key and the number of a good numbered CLR. It comes from the master, its URI has a key, and
--- its number is its TRANS-ID and at least 1. [Purge 1]
-abbrev pub purge_of : Setting → Address → ℕ → Option (List ℕ) → ℕ → Option (List ℕ × ℕ)
-purge_of g from trans None n = None
-purge_of g from trans (Some key) n =
-    if is_master g.roster from && (n == trans) && nat_le 1 n then Some (key, n) else None
+-- The state after an admission: the base is raised, and no copy below the number is held. [Base 2]
+abbrev pub rebased : {X : Type 0} → NodeState X → ℕ → NodeState X
+rebased s n = record s { floors = with_base s.floors n; copies = without_all_below n s.copies }
 
--- A good numbered CLR purges; any other is refused.
-unfoldable pub numbered_clr : {X : Type 0} → NodeState X → Address → ℕ → Bool → Option (List ℕ × ℕ) → Stepped X
-numbered_clr s from trans desired None = clr_refused s from trans desired
-numbered_clr s from trans desired (Some x) = purge s from trans desired x.0 x.1
+-- A copy with a stamp below the number is held.
+abbrev pub holds_older : {X : Type 0} → NodeState X → ℕ → Bool
+holds_older s n = list_any (λ c. nat_lt c.stamp n) s.copies
+
+-- An admission. The base is raised, older copies go, and the response says whether one went. [Base 2]
+unfoldable pub rebase : {X : Type 0} → NodeState X → Address → ℕ → Bool → ℕ → Stepped X
+rebase s from trans desired n = clr_done (rebased s n) from trans desired (holds_older s n)
+
+-- A number is the master's: the master sends it, it is the TRANS-ID, and it is at least 1.
+abbrev pub is_masters : Setting → Address → ℕ → ℕ → Bool
+is_masters g from trans n = is_master g.roster from && (n == trans) && nat_le 1 n
+
+-- The raise of a good CLR with this number line: the URI has a key, and the number is the master's. [Purge 1]
+abbrev pub purge_of : Setting → Address → ℕ → Option (List ℕ) → ℕ → Option Raise
+purge_of g from trans None n = None
+purge_of g from trans (Some key) n = if is_masters g from trans n then Some (Floor key n) else None
+
+-- The raise of a good CLR with this base line: the number is the master's. The URI is not looked at. [Base 1]
+abbrev pub base_of : Setting → Address → ℕ → ℕ → Option Raise
+base_of g from trans n = if is_masters g from trans n then Some (Base n) else None
+
+-- The same by the number line: there is none. [Base 1]
+abbrev pub base_alone : Setting → Address → ℕ → ℕ → Result (Option ℕ) HtcpFault → Option Raise
+base_alone g from trans n (Ok None) = base_of g from trans n
+base_alone g from trans n (Ok (Some number)) = None
+base_alone g from trans n (Err fault) = None
+
+-- A CLR that raises purges or admits; one that raises nothing is refused.
+unfoldable pub raising_clr : {X : Type 0} → NodeState X → Address → ℕ → Bool → Option Raise → Stepped X
+raising_clr s from trans desired None = clr_refused s from trans desired
+raising_clr s from trans desired (Some (Floor key n)) = purge s from trans desired key n
+raising_clr s from trans desired (Some (Base n)) = rebase s from trans desired n
 
 -- A copy of the key is held, whatever its stamp.
 abbrev pub held : {X : Type 0} → NodeState X → Option (List ℕ) → Bool
@@ -211,17 +240,26 @@ plain_clr g s from trans desired key =
     then clr_done (dropped s key) from trans desired (held s key)
     else clr_refused s from trans desired
 
--- A CLR by its number line: without one, with a number, or with a bad line, which is refused. [Purge 4]
+-- A CLR without a base line, by its number line: without one, with a number, or with a bad line, which is
+-- refused. [Purge 4]
 unfoldable pub clr_by_line : {X : Type 0} → Setting → NodeState X → Address → ℕ → Bool → Option (List ℕ) →
     Result (Option ℕ) HtcpFault → Stepped X
 clr_by_line g s from trans desired key (Ok None) = plain_clr g s from trans desired key
-clr_by_line g s from trans desired key (Ok (Some n)) = numbered_clr s from trans desired (purge_of g from trans key n)
+clr_by_line g s from trans desired key (Ok (Some n)) = raising_clr s from trans desired (purge_of g from trans key n)
 clr_by_line g s from trans desired key (Err fault) = clr_refused s from trans desired
+
+-- A CLR by its number line and its base line. With a base line, it admits or is refused. [Base 3]
+unfoldable pub clr_by_lines : {X : Type 0} → Setting → NodeState X → Address → ℕ → Bool → Option (List ℕ) →
+    Result (Option ℕ) HtcpFault → Result (Option ℕ) HtcpFault → Stepped X
+clr_by_lines g s from trans desired key number (Ok None) = clr_by_line g s from trans desired key number
+clr_by_lines g s from trans desired key number (Ok (Some n)) = raising_clr s from trans desired (base_alone g from trans n number)
+clr_by_lines g s from trans desired key number (Err fault) = clr_refused s from trans desired
 
 -- A CLR arrives. [Purge 6]
 unfoldable pub htcp_clr : {X : Type 0} → Setting → NodeState X → Address → ℕ → Bool → Specifier → Stepped X
 htcp_clr g s from trans desired spec =
-    clr_by_line g s from trans desired (g.key_of spec.uri) (number_in_text spec.request_headers PurgeNumber)
+    clr_by_lines g s from trans desired (g.key_of spec.uri) (number_in_text spec.request_headers PurgeNumber)
+    (number_in_text spec.request_headers PurgeBase)
 
 -- All messages
 

@@ -1,4 +1,4 @@
--- What a step of the function does to floors and copies: one of five effects (`Effect`, at the
+-- What a step of the function does to floors and copies: one of six effects (`Effect`, at the
 -- end), and what it keeps in each (`Keeps`). `Lawful` follows from it.
 use Rattle.std.specs.Prelude.{◌≡◌, ℕ, ◌≤◌, Bool, true, false, List, [], Option, Some, None, Result, Ok, Err, ◌⊎◌, unwrap_or, if◌then◌else◌}
 use Rattle.std.specs.List.{AllByRecursion, Contains}
@@ -25,13 +25,15 @@ use Rattle.node_rules.specs.declared.reply.Begin.TheVariants as begin
 use Rattle.node_rules.specs.declared.reply.Reply.{Reply}
 use Rattle.node_rules.specs.declared.reply.StepFault.{StepFault}
 use Rattle.node_rules.specs.declared.reply.StepFault.TheVariants as fault
-use Rattle.floor_rules.specs.Floors.{floor, seen, raised}
-use Rattle.object_store.specs.Listed.{copy_of, to_front, without}
-use Rattle.node_rules.specs.State.{Setting, Stepped, fetch_serial}
+use Rattle.floor_rules.specs.Floors.{floor, seen, raised, with_base}
+use Rattle.object_store.specs.Listed.{copy_of, to_front, without, without_all_below}
+use Rattle.node_rules.specs.declared.raising.Raise.{Raise}
+use Rattle.node_rules.specs.declared.raising.Raise.TheVariants.{Floor, Base}
+use Rattle.node_rules.specs.State.{Setting, Stepped, is_outside, fetch_serial}
+use Rattle.node_rules.specs.Raises.{left_by}
 use Rattle.node_rules.specs.Fetching.{origin_ask}
 use Rattle.node_rules.specs.Arrivals.{stored, is_gateway_fault}
-use Rattle.node_rules.specs.Datagrams.{left_by}
-use Rattle.node_rules.specs.Relation.{purge_in}
+use Rattle.node_rules.specs.Relation.{raise_in}
 use Rattle.node_rules.specs.Questions.{begun}
 
 -- What an outcome serves and sends
@@ -97,18 +99,20 @@ abbrev pub ComesFrom : {X : Type 0} → Event X → Address → Type 0
 ComesFrom (event.Datagram from m now) address = from ≡ address
 ComesFrom _ address = ⊥
 
--- A purge that the event brings has this number, and the floor of its key is at least the number.
-abbrev pub HasRaised : FloorTable → Option (List ℕ × ℕ) → ℕ → Type 0
+-- A raise that the event brings has this number: the floor of its key, or the base, is at least the
+-- number.
+abbrev pub HasRaised : FloorTable → Option Raise → ℕ → Type 0
 HasRaised rows None n = Unit {0}
-HasRaised rows (Some x) n = (x.1 ≡ n) × (n ≤ floor rows x.0)
+HasRaised rows (Some (Floor key m)) n = (m ≡ n) × (n ≤ floor rows key)
+HasRaised rows (Some (Base m)) n = (m ≡ n) × (n ≤ rows.base)
 
--- What is acknowledged goes to the sender of the event, and its floor is raised.
+-- What is acknowledged goes to the sender of the event, and is raised.
 abbrev pub Acknowledges : {X : Type 0} → Setting → Event X → FloorTable → Address → Option ℕ → Type 0
 Acknowledges g e rows to None = Unit {0}
-Acknowledges g e rows to (Some n) = ComesFrom e to × HasRaised rows (purge_in g e) n
+Acknowledges g e rows to (Some n) = ComesFrom e to × HasRaised rows (raise_in g e) n
 
--- An acknowledgement goes to the sender of the event; if that was a numbered CLR of the master, its
--- floor is raised.
+-- An acknowledgement goes to the sender of the event; if that was a purge or an admission, its floor or
+-- the base is raised.
 abbrev pub IsObedient : {X : Type 0} → Setting → Event X → FloorTable → Outgoing → Type 0
 IsObedient g e rows o = Acknowledges g e rows o.to (acknowledged o.message)
 
@@ -206,9 +210,9 @@ pub data Effect {X : Type 0} (g : Setting) (s : NodeState X) (e : Event X) (mark
   Stays : (pending : List (Pending X)) (next : ℕ) (outcome : Result (Reply X) StepFault) → copy_served outcome ≡ None →
       Keeps g s e mark record { state = state_of s.floors s.copies s.closed pending next; outcome = outcome } →
       Effect g s e mark record { state = state_of s.floors s.copies s.closed pending next; outcome = outcome }
-  -- a held copy is served by an open node, and comes to the front
+  -- a held copy is served by an open node that is not outside, and comes to the front
   Serves : (key : List ℕ) (c : WebCopy X) (pending : List (Pending X)) (next : ℕ)
-      (outcome : Result (Reply X) StepFault) → s.closed ≡ false → IsHeldAbove s.floors s.copies key c →
+      (outcome : Result (Reply X) StepFault) → s.closed ≡ false → is_outside g s ≡ false → IsHeldAbove s.floors s.copies key c →
       copy_served outcome ≡ Some c → Keeps g s e mark record
       { state = state_of s.floors (to_front key s.copies) s.closed pending next; outcome = outcome } →
       Effect g s e mark record {
@@ -229,7 +233,7 @@ pub data Effect {X : Type 0} (g : Setting) (s : NodeState X) (e : Event X) (mark
       }
   -- the purge that the event brings raises its floor, and no copy stays below its floor
   Purges : (key : List ℕ) (n : ℕ) (pending : List (Pending X)) (next : ℕ) (outcome : Result (Reply X) StepFault) →
-      purge_in g e ≡ Some (key, n) → copy_served outcome ≡ None →
+      raise_in g e ≡ Some (Floor key n) → copy_served outcome ≡ None →
       Keeps g s e mark record {
         state = state_of (raised s.floors key n) (left_by s.floors key n s.copies) s.closed pending
             next;
@@ -238,6 +242,16 @@ pub data Effect {X : Type 0} (g : Setting) (s : NodeState X) (e : Event X) (mark
         state = state_of (raised s.floors key n) (left_by s.floors key n s.copies) s.closed pending next;
         outcome =
             outcome;
+      }
+  -- the admission that the event brings raises the base, and no copy stays below its number
+  Rebases : (n : ℕ) (pending : List (Pending X)) (next : ℕ) (outcome : Result (Reply X) StepFault) →
+      raise_in g e ≡ Some (Base n) → copy_served outcome ≡ None →
+      Keeps g s e mark record {
+        state = state_of (with_base s.floors n) (without_all_below n s.copies) s.closed pending next;
+        outcome = outcome;
+      } → Effect g s e mark record {
+        state = state_of (with_base s.floors n) (without_all_below n s.copies) s.closed pending next;
+        outcome = outcome;
       }
   -- a copy is dropped
   Drops : (key : List ℕ) (pending : List (Pending X)) (next : ℕ) (outcome : Result (Reply X) StepFault) →

@@ -6,6 +6,7 @@ pub mod Messages
 pub mod Spelled
 pub mod Known
 pub mod State
+pub mod Raises
 pub mod Fetching
 pub mod Asks
 pub mod Arrivals

@@ -7,6 +7,7 @@ use Rattle.object_store.specs.Listed.{copy_of}
 use Rattle.floor_rules.specs.Floors.{FloorTable, floor}
 use Rattle.reuse_rules.specs.Freshness.{age_now, is_fresh}
 use Rattle.values_tables.specs.declared.plain.Tables.{Tables}
+use Rattle.roster.specs.Lookups.{is_founding}
 use Rattle.node_rules.specs.declared.message.Outgoing.{Outgoing}
 use Rattle.node_rules.specs.declared.state.Fetch.{Fetch}
 use Rattle.node_rules.specs.declared.state.Fetch.TheVariants.{Nowhere, AtPeer, AtOrigin}
@@ -72,6 +73,10 @@ serving waiter asker served = record {
 -- A node as it opens: it has these floors, and neither copies nor requests. [Node 3]
 abbrev pub opened : {X : Type 0} → FloorTable → NodeState X
 opened floors = record { floors = floors; copies = []; pending = []; next = 1; closed = false }
+
+-- The node is outside: its entry joins, and its base is 0, since the master has not admitted it. [Node 7]
+abbrev pub is_outside : {X : Type 0} → Setting → NodeState X → Bool
+is_outside g s = not (is_founding g.roster g.id) && (s.floors.base == 0)
 
 -- The state with these copies.
 abbrev pub with_copies : {X : Type 0} → NodeState X → List (WebCopy X) → NodeState X

@@ -1,5 +1,6 @@
 //! Laws of the definition. Each function does nothing: its contract states the law.
-ghost use Rattle.std.specs.Prelude.{◌≡◌, ◌≤◌, ◌<◌, ℕ, List, length, Result, Some, true, false};
+ghost use Rattle.std.specs.Prelude.{◌≡◌, ◌≤◌, ◌<◌, ℕ, List, [], ◌∷◌, length, Result, Some, None};
+ghost use Rattle.std.specs.Prelude.{true, false};
 ghost use Rattle.std.specs.List.{AllByRecursion};
 ghost use Rattle.object_store.specs.declared.copy.WebCopy.{WebCopy};
 ghost use Rattle.object_store.specs.Listed.{without_all_below};
@@ -8,14 +9,26 @@ ghost use Rattle.node_rules.specs.declared.state.NodeState.{NodeState};
 ghost use Rattle.node_rules.specs.declared.event.Event.{Event};
 ghost use Rattle.node_rules.specs.declared.reply.Reply.{Reply};
 ghost use Rattle.node_rules.specs.declared.reply.StepFault.{StepFault};
-ghost use Rattle.node_rules.specs.State.{Setting};
+ghost use Rattle.values_plain.specs.declared.address.Address.{Address};
+ghost use Rattle.icp_wire.specs.declared.message.Icp.{Icp};
+ghost use Rattle.icp_wire.specs.declared.message.IcpOp.TheVariants as ops;
+ghost use Rattle.htcp_wire.specs.declared.message.Htcp.{Htcp};
+ghost use Rattle.htcp_wire.specs.declared.message.Specifier.{Specifier};
+ghost use Rattle.htcp_wire.specs.declared.message.Content.TheVariants as content;
+ghost use Rattle.htcp_wire.specs.Grammar.{tst, not_allowed};
+ghost use Rattle.http_messages.specs.declared.ask.Ask.{Ask};
+ghost use Rattle.node_rules.specs.declared.message.Message.TheVariants as message;
+ghost use Rattle.node_rules.specs.declared.event.Event.TheVariants as event;
+ghost use Rattle.node_rules.specs.declared.reply.Served.TheVariants.{Status};
+ghost use Rattle.node_rules.specs.Messages.{icp, to, overall};
+ghost use Rattle.node_rules.specs.State.{Setting, replies, serving, sending, is_outside};
 ghost use Rattle.node_rules.specs.Asks.{IsBlock};
 ghost use Rattle.node_rules.specs.Serials.{Ascend, KeepsFetch};
 ghost use Rattle.node_rules.specs.Step.{step};
 ghost use Rattle.node_rules.specs.Relation.{Steps};
 ghost use Rattle.node_rules.specs.Questions.{is_from_sibling, BeginsNothing};
 ghost use Rattle.node_rules.specs.Effect.{copy_served};
-ghost use Rattle.node_rules.specs.Lawful.{Lawful};
+ghost use Rattle.node_rules.specs.Lawful.{Lawful, OutsideServesNothing};
 ghost use Rattle.node_rules.specs.Tags.{retag_state, retag_event, retag_outcome, retag_stepped};
 ghost use Rattle.node_rules.specs.Good.{AllAbove, IsAbove, AreStored, HasFreeBlock};
 
@@ -103,6 +116,33 @@ pub fn siblings_begin_nothing<T>()
     ensures { (g : Setting) (s : NodeState T) (e : Event T) (mark : T)
         (outcome : Result (Reply T) StepFault) (next : NodeState T) →
         is_from_sibling g e ≡ true → Steps g s e mark outcome next → BeginsNothing s outcome next }
+{}
+
+/// A node is outside while its entry joins and its base is 0. Such a node, where no request is
+/// pending, serves no copy, begins nothing and leaves no request waiting (`serves`). It answers a
+/// request with 503 (`client`, `member`), a QUERY with DENIED, whoever sent it (`query`), and a TST
+/// that desires a response with the overall code 5 (`refused`). None of these changes it.
+pub fn outside_nodes_serve_nothing<T>()
+    ensures serves { (g : Setting) (s : NodeState T) (e : Event T) (mark : T)
+        (outcome : Result (Reply T) StepFault) (next : NodeState T) →
+        Steps g s e mark outcome next → OutsideServesNothing g s outcome next }
+    ensures client { (g : Setting) (s : NodeState T) (mark : T) (ask : Ask) (now : ℕ) →
+        s.closed ≡ false → is_outside g s ≡ true →
+        step g s (event.Client ask now) mark ≡ replies s (serving None None (Status 503)) }
+    ensures member { (g : Setting) (s : NodeState T) (mark : T) (asker : ℕ) (ask : Ask) (now : ℕ) →
+        s.closed ≡ false → is_outside g s ≡ true →
+        step g s (event.PeerAsk asker ask now) mark
+        ≡ replies s (serving None (Some asker) (Status 503)) }
+    ensures query { (g : Setting) (s : NodeState T) (mark : T) (from : Address) (m : Icp)
+        (now : ℕ) →
+        s.closed ≡ false → is_outside g s ≡ true → m.op ≡ ops.Query →
+        step g s (event.Datagram from (message.Icp m) now) mark
+        ≡ replies s (sending (to from (icp ops.Denied m.number m.url) ∷ [])) }
+    ensures refused { (g : Setting) (s : NodeState T) (mark : T) (from : Address) (m : Htcp)
+        (spec : Specifier) (now : ℕ) →
+        s.closed ≡ false → is_outside g s ≡ true → m.content ≡ content.TstAsk true spec →
+        step g s (event.Datagram from (message.Htcp m) now) mark
+        ≡ replies s (sending (to from (overall m.trans tst not_allowed) ∷ [])) }
 {}
 
 /// Every step is lawful: it keeps all that the safety of purges rests on (`specs/Lawful`).

@@ -10,6 +10,7 @@
 //!   end of a round. It bears the time, in seconds.
 //! - [`NodeState`] is the state: floors, copies, pending requests ([`Pending`]), the next block of
 //!   serials, and whether the node is closed.
+//! - [`Raise`] is what a CLR of the master raises: the floor of a key, or the base.
 //! - [`Reply`] is the output: what to serve ([`Serve`]), which datagrams to send ([`Outgoing`]),
 //!   what to begin ([`Begin`]). A step that is refused gives a [`StepFault`] instead.
 //! - [`Received`] is a message that octets spell, so it can be answered; [`Sent`] is one that can
@@ -22,14 +23,15 @@
 //! 2. `Known`: which cache, sender and origin a node knows
 //! 3. `State`: `Setting`, what a step leads to (`Stepped`), and the words for both, such as
 //!    `is_good` (a copy may be served)
-//! 4. `Fetching`: where a pending request goes next: a peer, the origin, or its end
-//! 5. `Asks`: a client's or a member's request arrives
-//! 6. `Arrivals`: a response arrives, a fetch fails, a round expires
-//! 7. `Datagrams`: an ICP or HTCP message arrives, purges included
-//! 8. `Step`: the step as a function `step` of the setting, a state, an event and a mark; it gives
+//! 4. `Raises`: what a purge and an admission make of floors and copies
+//! 5. `Fetching`: where a pending request goes next: a peer, the origin, or its end
+//! 6. `Asks`: a client's or a member's request arrives
+//! 7. `Arrivals`: a response arrives, a fetch fails, a round expires
+//! 8. `Datagrams`: an ICP or HTCP message arrives, purges and admissions included
+//! 9. `Step`: the step as a function `step` of the setting, a state, an event and a mark; it gives
 //!    the next state and the outcome
-//! 9. `Relation`: the step as a relation, `Steps`. It adds what only a running node meets: an
-//!    allocation that fails, and a floor store that fails
+//! 10. `Relation`: the step as a relation, `Steps`. It adds what only a running node meets: an
+//!     allocation that fails, and a floor store that fails
 //!
 //! The rest states laws. `Questions`: a sibling's request begins nothing. `Effect`: what a step may
 //! do to floors and copies. `Lawful`: what each step keeps. `Good`: what stays true of an open
@@ -45,11 +47,15 @@
 //! read a copy comes from. No rule looks at them ([`laws::nodes_never_look_at_tags`]). A running
 //! node uses `()` for both.
 //!
-//! **Effect and Lawful.** A step of the function has one of five effects on floors and copies: they
-//! stay, a held copy is served, a response becomes a copy, a purge raises a floor, or a copy is
-//! dropped (`Effect`). From these, and from what a fault leaves, follows `Lawful`: all that the
-//! safety of purges needs to know of a step. The proof that purges are safe uses `Lawful` and looks
-//! at no rule again.
+//! **Outside.** A node whose entry joins, and whose base is 0, is outside: the master has not
+//! admitted it (`is_outside` of `State`). It serves no copy and begins nothing
+//! ([`laws::outside_nodes_serve_nothing`]).
+//!
+//! **Effect and Lawful.** A step of the function has one of six effects on floors and copies: they
+//! stay, a held copy is served, a response becomes a copy, a purge raises a floor, an admission
+//! raises the base, or a copy is dropped (`Effect`). From these, and from what a fault leaves,
+//! follows `Lawful`: all that the safety of purges needs to know of a step. The proof that purges
+//! are safe uses `Lawful` and looks at no rule again.
 //!
 //! # Where the rest stands
 //!
@@ -66,11 +72,13 @@ mod event;
 mod gateway;
 pub mod laws;
 mod message;
+mod raising;
 mod reply;
 mod state;
 
 pub use event::Event;
 pub use gateway::is_gateway_fault;
 pub use message::{Message, Outgoing, Received, Sent, fits};
+pub use raising::Raise;
 pub use reply::{Begin, Reply, Serve, Served, StepFault};
 pub use state::{Fetch, NodeState, Pending, SERIALS};

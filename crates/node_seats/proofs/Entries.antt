@@ -42,7 +42,12 @@ is_next log seat begins as_many =
       others = begins.0;
       log_is = sym begins.1;
       apart = none_of (entries_of seat.number begins.0)
-          (omega (arith, all, ap length (entries_append seat.number seat.seen begins.0), length-append (entries_of seat.number seat.seen) (entries_of seat.number begins.0)));
+          (omega (
+            arith,
+            all,
+            ap length (entries_append seat.number seat.seen begins.0),
+            length-append (entries_of seat.number seat.seen) (entries_of seat.number begins.0),
+          ));
     }
 
 -- an entry more of the seat is one more of its entries

@@ -1,4 +1,5 @@
--- Read Histories and Entries first; Recording stands on Histories.
+-- Read Histories and Entries first; Recording stands on Histories. Keeping is of what only proofs see.
 pub mod Histories
 pub mod Entries
 pub mod Recording
+pub mod Keeping

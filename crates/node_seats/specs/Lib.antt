@@ -3,3 +3,4 @@ pub mod Seats
 pub mod Records
 pub mod Desks
 pub mod Weight
+pub mod Kept

@@ -30,7 +30,6 @@ const MOST_OCTETS: u64 = 4_194_304;
 /// A contract sees the history, and the book.
 #[derive(Drop)]
 pub(crate) struct Desk<S: FloorStore, J: Origin> {
-    pub(crate) alloc: Global,
     /// The node, and its book if its steps are recorded. None once an entry could not be added to
     /// the history, which never happens.
     pub(crate) steps: Option<Steps<S>>,
@@ -80,7 +79,6 @@ impl<S: FloorStore + Drop, J: Origin> Desk<S, J> {
     {
         let steps = new_steps(alloc, node, retention)?;
         Ok(Desk {
-            alloc,
             steps: Some(steps),
             whole,
             places,
@@ -136,14 +134,7 @@ impl<S: FloorStore + Drop, J: Origin> Desk<S, J> {
                 }
             }
             Some(Steps::Alone(node)) => {
-                if let Some(told) = enter_alone(
-                    self.alloc,
-                    node,
-                    &mut self.whole,
-                    seat,
-                    place,
-                    event,
-                ) {
+                if let Some(told) = enter_alone(node, &mut self.whole, seat, place, event) {
                     return told;
                 }
             }

@@ -6,15 +6,15 @@ ghost use Rattle.node_seats.specs.Beginning.{LeadsToNode};
 ghost use Rattle.node_seats.specs.Seats.{Called, IsNext};
 ghost use Rattle.node_seats.specs.Desks.{IsEnteredIn, IsTakenIn};
 
+use crate::kept::Kept;
 use crate::seat::{Origin, Seat};
 use crate::whole::Whole;
 use floor_rules::FloorStore;
 use node_book::{BookFault, NodeBook, NodeEntry};
 use node_bytes::Stepper;
-use node_copies::copy_of_event;
 use node_core::Node;
 use node_rules::{Event, Reply, StepFault};
-use std::alloc::Global;
+use values_history::{Entry, Itself};
 
 /// What a seat is told of a step.
 pub(crate) type Told = Result<Reply<()>, StepFault>;
@@ -64,16 +64,37 @@ pub(crate) fn enter_recorded<S: FloorStore, J: Origin>(
     let Some(told) = apply(book, seat.number, place, event) else {
         return Some(Err(StepFault::NoMemory));
     };
-    if !whole.add(seat, &book.entries()[entered]) {
+    if !whole.add::<NodeEntry, Itself>(seat, &book.entries()[entered]) {
         return None;
     }
     Some(told)
 }
 
+/// A step that was taken, of which no entry is kept. Its event was moved on: only proofs have it.
+#[derive(Drop)]
+struct Taken {
+    seat: u8,
+    place: u64,
+    event: Kept<Event<()>>,
+    outcome: Told,
+}
+
+/// The entry of a step that was taken.
+struct Entered;
+
+impl Entry<Taken, NodeEntry> for Entered {
+    ghost of = { λ taken. record {
+      seat = taken.seat;
+      place = taken.place;
+      event = taken.event;
+      outcome = taken.outcome;
+    } };
+}
+
 /// Takes a step that is entered in the history alone, so that nothing of it is kept. Returns what
-/// the seat is told; None where the entry could not be added, which never happens.
+/// the seat is told; None where the entry could not be added, which never happens. It takes no
+/// memory beside the step.
 pub(crate) fn enter_alone<S: FloorStore, J: Origin>(
-    alloc: Global,
     node: &mut Node<(), S>,
     whole: &mut Whole<J>,
     seat: &mut Seat<J>,
@@ -87,18 +108,16 @@ pub(crate) fn enter_alone<S: FloorStore, J: Origin>(
     ensures leads { IfSome result (λ _. LeadsToNode J.beginning whole.new node.new) }
     ensures lost { IfNone result (seat.new ≡ seat.old) }
 {
-    let Ok(entered) = copy_of_event(alloc, &event) else {
-        return Some(Err(StepFault::NoMemory));
-    };
+    let kept = Kept::of(&event)?;
     let outcome = Stepper::step(node, event);
-    let entry = NodeEntry {
+    let taken = Taken {
         seat: seat.number,
         place,
-        event: entered,
+        event: kept,
         outcome,
     };
-    if !whole.add(seat, &entry) {
+    if !whole.add::<Taken, Entered>(seat, &taken) {
         return None;
     }
-    Some(entry.outcome)
+    Some(taken.outcome)
 }

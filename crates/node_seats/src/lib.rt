@@ -19,8 +19,8 @@
 //! `specs/Records.antt` (what a record is), `specs/Desks.antt`, `specs/Weight.antt` (what an
 //! event brings along); `src/seat.rt`, `src/shared.rt` (the call), `src/desk.rt` (the call inside
 //! the lock), `src/entering.rt` (the step and its entry), `src/whole.rt` (the history),
-//! `src/at_seat.rt`, `src/retention.rt`, `src/steps.rt`, `src/weight.rt`, `src/places.rt`;
-//! `proofs/Lib.antt`.
+//! `src/kept.rt` (a value that only proofs see), `src/at_seat.rt`, `src/retention.rt`,
+//! `src/steps.rt`, `src/weight.rt`, `src/places.rt`; `specs/Kept.antt`; `proofs/Lib.antt`.
 //!
 //! The crate waits at its own lock. It touches no socket, clock or thread; files are touched by the
 //! node's store of floors, which is passed in with the node.
@@ -33,6 +33,7 @@
 mod at_seat;
 mod desk;
 mod entering;
+mod kept;
 mod places;
 mod retention;
 mod seat;

@@ -43,5 +43,6 @@ impl<J: Origin> Model for Seat<J> {
 
     ghost view = { λ seat. record { number = seat.number; seen = seat.front } };
 
-    ghost invariant = { λ seat. (seat.calls ≡ length (entries_of seat.number seat.front)) × IsHistory J.beginning seat.front };
+    ghost invariant = { λ seat. (seat.calls ≡ length (entries_of seat.number seat.front))
+        × IsHistory J.beginning seat.front };
 }

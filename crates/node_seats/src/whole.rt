@@ -7,7 +7,7 @@ use crate::seat::{Origin, Seat};
 use node_book::NodeEntry;
 use std::alloc::{AllocError, Global};
 use std::marker::Model;
-use values_history::{Front, Head};
+use values_history::{Entry, Front, Head};
 
 /// The whole history of a node, and how many entries of it each seat has.
 ///
@@ -76,18 +76,18 @@ impl<J: Origin> Whole<J> {
         seat.front.begins(&self.front)
     }
 
-    /// Adds an entry of this seat, which knows the whole history then. Returns whether it did; else
-    /// nothing is changed, which never happens.
-    pub(crate) fn add(&mut self, seat: &mut Seat<J>, entry: &NodeEntry) -> bool
+    /// Adds the entry of a value, made by this seat, which knows the whole history then. Returns
+    /// whether it did; else nothing is changed, which never happens.
+    pub(crate) fn add<X, M: Entry<X, NodeEntry>>(&mut self, seat: &mut Seat<J>, value: &X) -> bool
         requires next { IsNext self.old seat.old }
-        requires own { entry.now.seat ≡ seat.old.number }
-        requires history { IsHistory J.beginning (self.old ++ entry.now ∷ []) }
-        ensures added { IsTrue result → (self.new ≡ self.old ++ entry.now ∷ [])
-            × Adds seat.old entry.now seat.new }
+        requires own { (M.of value.now).seat ≡ seat.old.number }
+        requires history { IsHistory J.beginning (self.old ++ M.of value.now ∷ []) }
+        ensures added { IsTrue result → (self.new ≡ self.old ++ M.of value.now ∷ [])
+            × Adds seat.old (M.of value.now) seat.new }
         ensures same { IsFalse result → (self.new ≡ self.old) × (seat.new ≡ seat.old) }
     {
         let place = usize::from(seat.number);
-        if place >= self.counts.len() || !self.front.add(&self.head, entry) {
+        if place >= self.counts.len() || !self.front.add_as::<X, M>(&self.head, value) {
             return false;
         }
         self.counts[place] += 1;

@@ -18,7 +18,7 @@ use Rattle.http_messages.specs.Field.{FieldText, is_dropped_name, dropped_names,
 use Rattle.http_writing.specs.Lines.{number_line, last_lines}
 use Rattle.http_writing.specs.Answer.{kept_line, kept_lines, number_lines}
 use Rattle.http_reading.specs.Fields.{is_named, value_of, values_named}
-use Rattle.http_reading.specs.Kept.{is_kept, kept_text, kept_by, kept}
+use Rattle.http_reading.specs.Kept.{is_kept, kept_text, kept_by, marks_by, kept}
 use Rattle.peer_fetch.specs.Writable.{IsFieldText}
 use Rattle.peer_fetch.proofs.Pairs.{IsPlainPair, ArePlain, pair_line, visible_pair}
 use Rattle.peer_fetch.proofs.Names.{age_token, stamp_token, length_token}
@@ -33,7 +33,8 @@ pair_of f = (f.name, f.value)
 
 abbrev pub own_pairs : Option ℕ → Option ℕ → Option ℕ → List ℕ → Pairs
 own_pairs age stamp len via =
-    number_pairs (codes "age") age ++ (number_pairs (codes "x-purge-stamp") stamp ++ (number_pairs (codes "content-length") len ++ (close_pair ∷ via_pair via ∷ [])))
+    number_pairs (codes "age") age
+    ++ (number_pairs (codes "x-purge-stamp") stamp ++ (number_pairs (codes "content-length") len ++ (close_pair ∷ via_pair via ∷ [])))
 
 abbrev pub answer_pairs : List FieldText → Option ℕ → Option ℕ → Option ℕ → List ℕ → Pairs
 answer_pairs fields age stamp len via = map pair_of fields ++ own_pairs age stamp len via
@@ -44,6 +45,7 @@ kept_lines_are : (fields : List FieldText) → flat_map pair_line (map pair_of f
 kept_lines_are [] = refl
 kept_lines_are (f ∷ fields) = ap (λ (t : List ℕ). kept_line f ++ t) (kept_lines_are fields)
 
+-- each of a node's own fields is written as its number line or as one of the last lines, so the pairs give those lines in order
 own_lines : (age stamp len : Option ℕ) (via tail : List ℕ) → flat_map pair_line (own_pairs age stamp len via) ++ tail ≡ number_lines age stamp len
     ++ (last_lines via ++ tail)
 own_lines age stamp len via tail =
@@ -56,9 +58,12 @@ own_lines age stamp len via tail =
     let l : List ℕ = number_line (codes "content-length") len in
     let k : List ℕ = pair_line close_pair in
     let v : List ℕ = pair_line (via_pair via) in
-    let third : flat_map pair_line (L ++ E) ≡ l ++ (k ++ (v ++ [])) = flat_map-append pair_line L E ∙ ap (λ (t : List ℕ). t ++ (k ++ (v ++ []))) (number_lines_are (codes "content-length") len) in
-    let second : flat_map pair_line (S ++ (L ++ E)) ≡ s ++ (l ++ (k ++ (v ++ []))) = flat_map-append pair_line S (L ++ E) ∙ ap₂ (λ (x y : List ℕ). x ++ y) (number_lines_are (codes "x-purge-stamp") stamp) third in
-    let first : flat_map pair_line (A ++ (S ++ (L ++ E))) ≡ a ++ (s ++ (l ++ (k ++ (v ++ [])))) = flat_map-append pair_line A (S ++ (L ++ E)) ∙ ap₂ (λ (x y : List ℕ). x ++ y) (number_lines_are (codes "age") age) second in
+    let third : flat_map pair_line (L ++ E) ≡ l ++ (k ++ (v ++ [])) =
+    flat_map-append pair_line L E ∙ ap (λ (t : List ℕ). t ++ (k ++ (v ++ []))) (number_lines_are (codes "content-length") len) in
+    let second : flat_map pair_line (S ++ (L ++ E)) ≡ s ++ (l ++ (k ++ (v ++ []))) =
+    flat_map-append pair_line S (L ++ E) ∙ ap₂ (λ (x y : List ℕ). x ++ y) (number_lines_are (codes "x-purge-stamp") stamp) third in
+    let first : flat_map pair_line (A ++ (S ++ (L ++ E))) ≡ a ++ (s ++ (l ++ (k ++ (v ++ [])))) =
+    flat_map-append pair_line A (S ++ (L ++ E)) ∙ ap₂ (λ (x y : List ℕ). x ++ y) (number_lines_are (codes "age") age) second in
     ap (λ (t : List ℕ). t ++ tail) first ∙ regroup a s l k v tail
   where
     regroup : (a s l k v t : List ℕ) → (a ++ (s ++ (l ++ (k ++ (v ++ []))))) ++ t ≡ (a ++ (s ++ l)) ++ ((k ++ v) ++ t)
@@ -207,7 +212,8 @@ bytes_turned a b other = elim (cases_Bool (bytes_eq b a)) [
 
 is_kept_again : (f : FieldText) → IsPlainField f → is_kept closing (pair_of f) ≡ true
 is_kept_again f plain =
-    let closes : bytes_eq (codes "close") (lowercase f.name) ≡ false = ap (bytes_eq (codes "close")) plain.lower ∙ bytes_turned f.name (codes "close") (not_dropped f.name 9 (omega arith) plain.other) in
+    let closes : bytes_eq (codes "close") (lowercase f.name) ≡ false =
+    ap (bytes_eq (codes "close")) plain.lower ∙ bytes_turned f.name (codes "close") (not_dropped f.name 9 (omega arith) plain.other) in
     let dropped : is_dropped_name (lowercase f.name) ≡ false = ap is_dropped_name plain.lower ∙ plain.other in
     rw (dropped, closes) refl
 
@@ -220,7 +226,7 @@ pub kept_back : (fields : List FieldText) (age stamp len : Option ℕ) (via : Li
     kept (answer_pairs fields age stamp len via) ≡ fields
 kept_back fields age stamp len via plain =
     let own : Pairs = own_pairs age stamp len via in
-    ap (λ options. kept_by options (answer_pairs fields age stamp len via)) (pairs_say fields age stamp len via plain).options
+    ap (λ options. marks_by options ++ kept_by options (answer_pairs fields age stamp len via)) (pairs_say fields age stamp len via plain).options
     ∙ kept_both closing (map pair_of fields) own
     ∙ ap₂ (λ (xs ys : List FieldText). xs ++ ys) (kept_fields_again fields plain) (own_dropped age stamp len via)
     ∙ append-nil fields

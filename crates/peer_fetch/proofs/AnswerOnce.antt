@@ -33,6 +33,7 @@ clash b is other = let bad : true ≡ false = sym is ∙ other in cc
 
 -- Heads without places
 
+-- each head is read in one way, and no interim head is the final one, so both lists end together
 pub heads_once : (xs ys : List ResponseHead) (h k : ResponseHead) (r q : List ℕ) → AllByRecursion IsInterim xs → AllByRecursion IsInterim ys →
     IsResponseHead h → IsResponseHead k
     → is_interim (status_code h) ≡ false → is_interim (status_code k) ≡ false
@@ -90,6 +91,7 @@ pub record SameHead (start end start2 end2 : ℕ) (t t2 : ToldText) : Type 0 whe
   pub ends : end2 ≡ end
   pub tells : t2 ≡ t
 
+-- the interim heads are the same and so is the final one, so both readings take the same octets
 pub head_once : (octets more : List ℕ) (start end start2 end2 : ℕ) (t t2 : ToldText) → HeadSays octets start end (Ok t) →
     HeadSays (octets ++ more) start2 end2 (Ok t2) → SameHead start end start2 end2 t t2
 head_once octets more start end start2 end2 t t2 a b =

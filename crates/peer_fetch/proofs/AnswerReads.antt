@@ -175,14 +175,16 @@ module _ (a : AnswerText) (via rest : List ℕ) (held : Held) (left input : List
   body_stops false fault stops = length_stops fault stops
 
   pub fault_stops : (fault : FetchFault) → StopsInAnswer (Some left) held fault → StopsInAnswerText (answer_text a via) held fault
-  fault_stops fault (inl (start, passes, stops)) = head_stops fault (subst (λ (n : ℕ). StopsAtHead (Some left) held n fault) (starts_at start passes) stops)
+  fault_stops fault (inl (start, passes, few, stops)) = head_stops fault
+      (subst (λ (n : ℕ). StopsAtHead (Some left) held n fault) (starts_at start passes) stops)
   fault_stops fault (inr (inl (start, end, says))) = let bad = says_same start end (Err fault) says in cc
   fault_stops fault (inr (inr (inl (start, end, t, says, stops)))) =
       let same = same_head start end t says in
       body_stops (has_no_body a.status) fault
       (subst (λ (n : ℕ). StopsInBody (framing_of a) (Some left) held n fault) (sym same.ends)
       (subst (λ (t : ToldText). StopsInBody t.framing (Some left) held end fault) (sym same.tells) stops))
-  fault_stops fault (inr (inr (inr memory))) = inr (inl memory)
+  fault_stops fault (inr (inr (inr (inl (start, passes, many, long))))) = absurd (omega (arith, many, starts_at start passes))
+  fault_stops fault (inr (inr (inr (inr memory)))) = inr (inl memory)
 
   pub ok_says : (read : AnswerText) (end : ℕ) → SpellsAnswer held.octets end read → read ≡ a
   ok_says read end spelled =

@@ -32,6 +32,7 @@ head_says a via rest octets p name is =
     let limit = head_short a via p name in
     record {
       interim = no_interim octets;
+      few = omega arith;
       head = head_of a via;
       final = told_not_interim (head_of a via) (told_of a) (head_tells a via p name);
       short = record { valid = reads.0; short = omega (arith, whole, printed, written, limit); few = pairs_few a via p };

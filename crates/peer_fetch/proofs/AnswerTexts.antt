@@ -213,12 +213,12 @@ final_is : (status : ℕ) → 200 ≤ status → status ≤ 599 → is_final sta
 final_is status low high = rw (le-leb 200 status low, le-leb status 599 high) refl
 
 told_by : (a : AnswerText) (pairs : List (List ℕ × List ℕ)) → Parts a → SaysOwn pairs a.age a.stamp (told_length a) → kept pairs ≡ a.fields →
-    told (record { status = a.status; fields = pairs }) ≡ Ok (told_of a)
+    told (record { status = a.status; minor = 1; fields = pairs }) ≡ Ok (told_of a)
 unfolding told_made
 told_by a pairs p says kept_is =
     let coded : framing pairs ≡ framing_told (Ok false) (length_told (option_to_list (option_map decimal (told_length a)))) =
     ap₂ (λ cs ls. framing_told (coding_told cs) (length_told ls)) says.coding says.lengths in
-    let framed_is : framing_by a.status pairs ≡ Ok (framing_of a) =
+    let framed_is : framing_by a.status 1 pairs ≡ Ok (framing_of a) =
     ap (λ f. cond (has_no_body a.status) (Ok None) (some_framing f)) coded ∙ framing_back (has_no_body a.status) (length a.body) p.short in
     let few : are_few_fields (kept pairs) ≡ true = ap are_few_fields kept_is ∙ p.few in
     let ages : age pairs ≡ a.age = ap (λ vs. option_and_then (number_up_to 2147483648) (first_of vs)) says.ages ∙ age_back a.age p.age in
@@ -234,6 +234,6 @@ head_tells a via p name =
     let high = p.high in
     let code : digits_value 10 (decimal a.status) ≡ a.status = value_back a.status (omega arith) in
     let read = fields_read (pairs_of a via) (pairs_plain a via p name) in
-    ap₂ (λ (s : ℕ) (fs : List (List ℕ × List ℕ)). told (record { status = s; fields = fs })) code read
+    ap₂ (λ (s : ℕ) (fs : List (List ℕ × List ℕ)). told (record { status = s; minor = 1; fields = fs })) code read
     ∙ told_by a (pairs_of a via) p (pairs_say a.fields a.age a.stamp (told_length a) via p.fields)
     (kept_back a.fields a.age a.stamp (told_length a) via p.fields)

@@ -9,6 +9,9 @@ use Rattle.http_messages.specs.declared.ask.Ask.{Ask}
 use Rattle.http_messages.specs.declared.fault.FetchFault.{FetchFault}
 use Rattle.http_messages.specs.declared.fault.FetchFault.TheVariants.{Io, EndOfInput, BadHead, HeadTooLong, BadTarget, MethodNotServed, Credentials, BadBody}
 use Rattle.http_messages.specs.declared.fault.FetchFault.TheVariants.{BodyTooLong, TooManyTurns, NoMemory}
+use Rattle.url_key.specs.declared.fault.KeyFault.{KeyFault}
+use Rattle.url_key.specs.declared.fault.KeyFault.TheVariants.{TooLong, NotVisibleAscii, Fragment, NotUri, NotHttp, UserInfo, NoHost, BadPort}
+use Rattle.url_key.specs.declared.fault.KeyFault.TheVariants as key_fault
 use Rattle.http_intake.specs.Reading.{Held, nothing_held, Takes, most_turns}
 use Rattle.http_intake.specs.Heads.{longest_head, head_window, IsLongRequest}
 use Rattle.http_reading.specs.Asks.{SpellsHead, FrontSays, StopsInAsk, ReadsAsk}
@@ -75,6 +78,19 @@ module _ (input text rest : List ℕ) (held : Held) (left : List ℕ) (ask : Ask
       let room = spells.few in
       omega (arith, few, room, over)
 
+  no_target : (f : KeyFault) → StopsInAsk (Some left) held (BadTarget f) → ⊥
+  unfolding window
+  no_target TooLong (inl stops) = long stops.long
+  no_target TooLong (inr says) = no_fault (BadTarget TooLong) says
+  no_target NotVisibleAscii says = no_fault (BadTarget NotVisibleAscii) says
+  no_target Fragment says = no_fault (BadTarget Fragment) says
+  no_target NotUri says = no_fault (BadTarget NotUri) says
+  no_target NotHttp says = no_fault (BadTarget NotHttp) says
+  no_target UserInfo says = no_fault (BadTarget UserInfo) says
+  no_target NoHost says = no_fault (BadTarget NoHost) says
+  no_target BadPort says = no_fault (BadTarget BadPort) says
+  no_target key_fault.NoMemory says = no_fault (BadTarget key_fault.NoMemory) says
+
   pub fault_stops : (fault : FetchFault) → StopsInAsk (Some left) held fault → StopsInAskText fault
   unfolding window
   fault_stops Io stops = inl refl
@@ -83,8 +99,8 @@ module _ (input text rest : List ℕ) (held : Held) (left : List ℕ) (ask : Ask
   fault_stops EndOfInput stops = absurd (ended stops.1 stops.0.0)
   fault_stops BadHead (inl none) = absurd (never none)
   fault_stops BadHead (inr says) = absurd (no_fault BadHead says)
-  fault_stops HeadTooLong stops = absurd (long stops)
-  fault_stops (BadTarget f) stops = absurd (no_fault (BadTarget f) stops)
+  fault_stops HeadTooLong stops = absurd (long stops.long)
+  fault_stops (BadTarget f) stops = absurd (no_target f stops)
   fault_stops MethodNotServed stops = absurd (no_fault MethodNotServed stops)
   fault_stops Credentials stops = absurd (no_fault Credentials stops)
   fault_stops BadBody stops = absurd (no_fault BadBody stops)

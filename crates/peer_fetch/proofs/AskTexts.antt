@@ -3,11 +3,12 @@
 use Rattle.std.proofs.Common.{◌≡◌, ℕ, ◌+◌, ◌≤◌, Bool, true, false, List, [], ◌∷◌, ◌++◌, length, map, drop, Option, Some, None, Ok, sym, ap, ◌∙◌, subst, arith}
 use Rattle.std.proofs.Common.{append_assoc, append-nil, length-append, length-take, length-drop, codes, decimal}
 use Rattle.std.specs.List.{flat_map}
+use Rattle.std.proofs.lemmas.Bool.{and_parts}
 use Rattle.std.proofs.lemmas.List.{length-map}
 use Rattle.std.proofs.lemmas.Fmt.{length-decimal-le}
 use Rattle.httparse.specs.Grammar.{ReadsRequest}
 use Rattle.http_uri.specs.Grammar.{authority_len}
-use Rattle.url_key.specs.Text.{http_prefix, key_authority}
+use Rattle.url_key.specs.Text.{http_prefix, key_authority, key_path}
 use Rattle.url_key.specs.Key.{HasKey}
 use Rattle.http_messages.specs.declared.ask.Ask.{Ask}
 use Rattle.http_writing.specs.declared.ask.AskForm.{AskForm}
@@ -16,6 +17,7 @@ use Rattle.http_writing.specs.Lines.{crlf, field_line, number_line, last_lines}
 use Rattle.http_writing.specs.Ask.{ask_text, target, request_line, cache_control_line}
 use Rattle.http_reading.specs.AskFields.{host, member}
 use Rattle.http_reading.specs.Directives.{only_if_cached, no_cache}
+use Rattle.http_reading.specs.Uri.{is_authority, is_written, path_octets, is_uri_key}
 use Rattle.http_reading.specs.AskHead.{AskHead, parts_of, url_by, Says, asked}
 use Rattle.http_reading.specs.Asks.{SpellsAsk}
 use Rattle.peer_fetch.specs.Writable.{IsMember, IsWritableAsk}
@@ -97,6 +99,7 @@ last_short via name =
     let short = name.short in
     omega (arith, a, b, c)
 
+-- the target and the host are at most as long as a key may be, and all other parts of the text are short
 pub text_short : (form : AskForm) (ask : Ask) (via : List ℕ) → IsWritableAsk ask → is_name via ≡ true → length (ask_text form ask via) ≤ 16384
 text_short form ask via writable name =
     let key : List ℕ = ask.key in
@@ -139,7 +142,8 @@ pairs_few ask via =
     let size = length-map (pairs_of ask via) field_of in
     let a = control_few ask.only_if_cached ask.no_cache in
     let b = number_few (codes "x-purge-member") ask.member in
-    let c = length-append (control_pairs ask.only_if_cached ask.no_cache) ((codes "connection", codes "close") ∷ (codes "via", codes "1.1 " ++ via) ∷ number_pairs (codes "x-purge-member") ask.member) in
+    let c = length-append (control_pairs ask.only_if_cached ask.no_cache)
+    ((codes "connection", codes "close") ∷ (codes "via", codes "1.1 " ++ via) ∷ number_pairs (codes "x-purge-member") ask.member) in
     omega (arith, size, a, b, c)
 
 -- It makes the request that was written
@@ -151,20 +155,23 @@ ask_with : List ℕ → Bool → Bool → Option ℕ → Ask
 ask_with key only fresh m = record { key = key; only_if_cached = only; no_cache = fresh; member = m }
 
 asked_is : (ask : Ask) (pairs : List (List ℕ × List ℕ)) → SaysAsk pairs (key_authority ask.key) ask.only_if_cached ask.no_cache ask.member →
-    IsMember ask.member → Ok ask ≡ asked pairs (Ok ask.key)
+    IsMember ask.member → is_uri_key ask.key ≡ true → Ok ask ≡ asked pairs (Ok ask.key)
 unfolding ask_with
-asked_is ask pairs says is =
+asked_is ask pairs says is uri =
     let made : ask_with ask.key (only_if_cached pairs) (no_cache pairs) (member pairs) ≡ ask_with ask.key ask.only_if_cached ask.no_cache ask.member =
     ap (λ b. ask_with ask.key b (no_cache pairs) (member pairs)) says.only_is
     ∙ ap (λ b. ask_with ask.key ask.only_if_cached b (member pairs)) says.no_is
     ∙ ap (ask_with ask.key ask.only_if_cached ask.no_cache) (says.member_is ∙ member_back ask.member is) in
-    rw (says.credentials, says.body) (ap Ok (sym made))
+    rw (uri, says.credentials, says.body) (ap Ok (sym made))
 
 says_by : (ask : Ask) (text : List ℕ) (pairs : List (List ℕ × List ℕ)) → IsTargetOf ask.key text →
     SaysAsk pairs (key_authority ask.key) ask.only_if_cached ask.no_cache ask.member → IsWritableAsk ask → Says (head_with text pairs) (Ok ask)
 says_by ask text pairs is says writable =
     let url_is : url_by (host pairs) text ≡ ask.key = ap (λ named. url_by named text) says.host_is ∙ is.url in
-    rw says.host_is (Ok ask.key, subst (λ (t : List ℕ). HasKey t (Ok ask.key)) (sym url_is) (own_key ask writable), asked_is ask pairs says writable.member)
+    let authority : is_authority (key_authority ask.key) ≡ true =
+    (and_parts (is_authority (key_authority ask.key)) (is_written path_octets (key_path ask.key)) writable.uri).0 in
+    rw (says.host_is, authority)
+    (Ok ask.key, subst (λ (t : List ℕ). HasKey t (Ok ask.key)) (sym url_is) (own_key ask writable), asked_is ask pairs says writable.member writable.uri)
 
 pub text_says : (form : AskForm) (ask : Ask) (via : List ℕ) → IsWritableAsk ask → is_name via ≡ true →
     Says (parts_of (request_of (target form ask.key) (pairs_of ask via))) (Ok ask)

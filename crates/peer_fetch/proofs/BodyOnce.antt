@@ -50,6 +50,7 @@ split_at octets start at forward =
     sym (take-append-drop (at - start) (drop start octets)) ∙ ap (λ (t : List ℕ). take (at - start) (drop start octets) ++ t)
     (drop-drop (at - start) start octets ∙ ap (λ (k : ℕ). drop k octets) place)
 
+-- the octets of the chunks, of the last line and of the trailer stand one after another
 chunked_text : (octets : List ℕ) (start end : ℕ) (body : List ℕ) → HoldsChunkedBody octets start end body →
     ChunkedText (drop start octets) (drop end octets) body
 chunked_text octets start end body holds =
@@ -142,6 +143,7 @@ chunk_shape c rest = regroup (print_chunk_line c.line) c.octets rest
     regroup : (a b r : List ℕ) → (a ++ b ++ crlf_bytes) ++ r ≡ a ++ (b ++ (crlf_bytes ++ r))
     regroup a b r = simp append_assoc
 
+-- each line is read in one way and gives the size of its chunk, 0 for the last alone, so both lists end together
 chunks_once : (cs ds : List ChunkText) (l k : ChunkLine) (r q : List ℕ) → AllByRecursion IsChunk cs → AllByRecursion IsChunk ds → IsChunkLine l →
     IsChunkLine k → 0 ≡ chunk_size l → 0 ≡ chunk_size k
     → flat_map print_chunk cs ++ (print_chunk_line l ++ r) ≡ flat_map print_chunk ds ++ (print_chunk_line k ++ q) → (body_of cs ≡ body_of ds) × (r ≡ q)

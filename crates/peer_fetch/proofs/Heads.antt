@@ -33,7 +33,8 @@ visible_utf8 text visible =
 -- A request
 
 abbrev pub request_of : List ℕ → List (List ℕ × List ℕ) → RequestHead
-request_of target pairs = record { blank = []; method = codes "GET"; target = target; minor = 1; line_end = grammar.crlf; fields = map field_of pairs; last = grammar.crlf }
+request_of target pairs =
+    record { blank = []; method = codes "GET"; target = target; minor = 1; line_end = grammar.crlf; fields = map field_of pairs; last = grammar.crlf }
 
 request_valid : (target : List ℕ) (pairs : List (List ℕ × List ℕ)) → list_all is_visible target ≡ true → 0 < length target → ArePlain pairs →
     IsRequestHead (request_of target pairs)

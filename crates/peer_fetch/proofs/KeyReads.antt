@@ -165,7 +165,8 @@ named a path query key e = elim (cases_Bool (list_any (λ b. b == 64) a)) [
       record { no_at = none; some = found.1; port = found.0; port_is = found.2; key_is = found.3 }
 ]
 
-absolute : (text : List ℕ) (s a : Option (List ℕ)) (kept : List ℕ) → s ≡ Some (codes "http") → IsForm text s a kept → (authority : List ℕ) × (a ≡ Some authority) × IsAbsoluteForm text (codes "http") authority kept
+absolute : (text : List ℕ) (s a : Option (List ℕ)) (kept : List ℕ) → s ≡ Some (codes "http") → IsForm text s a kept → (authority : List ℕ)
+    × (a ≡ Some authority) × IsAbsoluteForm text (codes "http") authority kept
 absolute text None a kept e form = cc
 absolute text (Some s) None kept e form = absurd form
 absolute text (Some s) (Some authority) kept e form =
@@ -177,7 +178,9 @@ absolute text (Some s) (Some authority) kept e form =
 http_is_scheme : IsScheme (codes "http")
 http_is_scheme = (search rules, omega arith)
 
-spelled_again : (text key : List ℕ) (u : Uri) → uri_scheme u ≡ Some (codes "http") → (authority : List ℕ) → IsAbsoluteForm text (codes "http") authority (uri_data u) → Named authority (uri_path u) (uri_query u) key → length key ≤ 1024
+-- the key is scheme, authority in lower case and path, and read again these are the parts of a URI
+spelled_again : (text key : List ℕ) (u : Uri) → uri_scheme u ≡ Some (codes "http") → (authority : List ℕ)
+    → IsAbsoluteForm text (codes "http") authority (uri_data u) → Named authority (uri_path u) (uri_query u) key → length key ≤ 1024
     → (v : Uri) × Spells key v
 spelled_again text key u scheme_is authority form n short =
     let w : List ℕ = lowercase (host_of authority) ++ port_text n.port in

@@ -7,7 +7,7 @@ use Rattle.std.proofs.lemmas.Bool.Decides.{nat_tests}
 use Rattle.std.proofs.lemmas.List.{get_or-reverse}
 use Rattle.std.proofs.lemmas.List.Elements.{All-weaker, All-cons, All-nil}
 use Rattle.std.proofs.lemmas.List.Sums.{AllPass-from_list_all}
-use Rattle.httparse.specs.Grammar.{LineEnd, Field, print_field, IsField, IsToken, AllPass, is_ows, skip_ows, trim_ows, is_value_byte, is_token_byte}
+use Rattle.httparse.specs.Grammar.{Field, print_field, IsField, IsToken, AllPass, is_ows, skip_ows, trim_ows, is_value_byte, is_token_byte}
 use Rattle.httparse.specs.Grammar as grammar
 use Rattle.httparse.specs.Spans.{name_and_value}
 use Rattle.httparse.proofs.TrimLemmas.{trim_ows_space}

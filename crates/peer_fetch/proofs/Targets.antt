@@ -43,7 +43,8 @@ uri_by text key (Some fault) e = cc
 uri_by text key None (inl none) = cc
 uri_by text key None (inr (u, spells, e)) = record { uri = u; spells = spells; scheme = scheme_of u key e }
 
-tail_of : (text : List ℕ) (s a : Option (List ℕ)) (kept : List ℕ) → s ≡ Some (codes "http") → IsForm text s a kept → (0 < length (path_of kept)) × (get_or (path_of kept) 0 0 ≡ 47)
+tail_of : (text : List ℕ) (s a : Option (List ℕ)) (kept : List ℕ) → s ≡ Some (codes "http") → IsForm text s a kept → (0 < length (path_of kept))
+    × (get_or (path_of kept) 0 0 ≡ 47)
 tail_of text None a kept e form = cc
 tail_of text (Some s) None kept e form = absurd form
 tail_of text (Some s) (Some authority) kept e form = path_first form.tail kept form.is_tail
@@ -85,6 +86,7 @@ path_short key =
     let rest : List ℕ = drop (length http_prefix) key in
     omega (arith, length-drop (authority_len rest) rest, length-drop (length http_prefix) key)
 
+-- the absolute form is the key; the origin form is its path, which begins with a slash and goes with the authority
 pub target_is : (form : AskForm) (key : List ℕ) → HasKey key (Ok key) → IsTargetOf key (target form key)
 target_is Absolute key has =
     let plain : IsPlainText key = key_plain key key has in

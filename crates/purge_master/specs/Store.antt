@@ -36,12 +36,12 @@ pub record KeepsStore {S : Type 0} (was now : Witness) (before after : MasterVie
       OnErr out
       ((after.store ≡ before.store)
       ⊎ (now.is_honest → (found : PurgeList) → now.may_find found →
-      IsEither before.state.purges (called before.members before.state c).state.purges found))
+      IsEither before.state.purges (called before.nodes before.state c).state.purges found))
   pub fault : out ≡ Err fault.StoreFault → HaveRisen was.failed now.failed
 
--- the master has made the call with this outcome, and is left so, with the same members
+-- the master has made the call with this outcome, and is left so, with the same nodes
 pub record IsCalled {S : Type 0} (was now : Witness) (before after : MasterView S) (c : MasterCall)
     (out : Result MasterAnswer MasterFault) : Type 0 where
-  pub members : after.members ≡ before.members
-  pub call : Calls before.members before.state c out after.state
+  pub nodes : after.nodes ≡ before.nodes
+  pub call : Calls before.nodes before.state c out after.state
   pub store : KeepsStore was now before after c out

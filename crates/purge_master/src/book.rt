@@ -8,7 +8,7 @@ ghost use Rattle.purge_master.specs.Book.{IsEntered};
 
 use crate::Master;
 use htcp_wire::Htcp;
-use purge_rules::{MasterAnswer, MasterCall, MasterFault, PurgeStore, Purges};
+use purge_rules::{MasterAnswer, MasterCall, MasterFault, Nodes, PurgeStore, Purges};
 use std::alloc::{AllocError, Global};
 use std::marker::Model;
 use std::mem::replace;
@@ -68,8 +68,8 @@ impl<S: PurgeStore> MasterBook<S> {
     ///
     /// Errors: `ShiftFull` before anything else, if there are 4,096 entries; then `NoMemory`, if
     /// the entry cannot be allocated. Neither is entered, and nothing changes. Any other error is
-    /// the master's (`Master::issue`, `acknowledge`, `due`), also its own `NoMemory`; it is
-    /// entered.
+    /// the master's (`Master::issue`, `admit`, `acknowledge`, `due`), also its own `NoMemory`; it
+    /// is entered.
     pub fn call(&mut self, place: u64, call: MasterCall) -> Result<MasterAnswer, MasterFault>
         ensures full { 4096 ≤ length self.old.entries → (result ≡ Err faults.ShiftFull)
             × (self.new ≡ self.old) }
@@ -110,16 +110,23 @@ impl<S: PurgeStore> MasterBook<S> {
         replace(&mut self.entries, Vec::new(self.alloc))
     }
 
-    /// The last number that was given, and the pending purges, as `Master::purges` gives them. This
-    /// is no call, and is not entered.
+    /// The nodes of the roster, as `Master::nodes` gives them. This is no call, and is not entered.
+    pub fn nodes(&self) -> &Nodes
+        ensures { result.now ≡ self.now.master.nodes }
+    {
+        self.master.nodes()
+    }
+
+    /// The last number that was given, the pending purges and the admissions, as `Master::purges`
+    /// gives them. This is no call, and is not entered.
     pub fn purges(&self) -> &Purges
         ensures { result.now ≡ self.now.master.state.purges }
     {
         self.master.purges()
     }
 
-    /// The CLR of the pending purge with this number, as `Master::message` gives it. This is no
-    /// call, and is not entered.
+    /// The CLR of the pending number, as `Master::message` gives it. This is no call, and is not
+    /// entered.
     pub fn message(&self, number: u32) -> Result<Option<Htcp>, AllocError>
         ensures value { IfOk result (λ message.
             message ≡ message_of self.now.master.state.purges number) }

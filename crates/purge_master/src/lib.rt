@@ -1,5 +1,5 @@
-//! The master of purges, as code: it numbers purges, makes their CLRs, counts acknowledgements, and
-//! reports a purge done once no member is missing.
+//! The master of purges, as code: it numbers purges and admissions, makes their CLRs, counts
+//! acknowledgements, and reports a number done once no member that it needs is missing.
 //!
 //! - `Master`: the calls that `purge_rules` defines, over any store of purges (`PurgeStore`). A
 //!   call reserves memory first; then the store commits; then it returns. If the store fails,
@@ -8,12 +8,13 @@
 //!   entries, for a later check (`run_check`).
 //! - `MasterOpenFault`: why a master was not opened.
 //!
-//! `Master::message` gives the CLR of a pending purge. The caller sends it to each member, repeats
-//! it as `due` says, and passes each response to `acknowledge`.
+//! `Master::message` gives the CLR of a pending number. The caller sends it to each member that the
+//! number needs, repeats it as `due` says, and passes each response to `acknowledge`.
 //!
 //! Read in this order:
 //!
-//! 1. `specs/Calls.antt` of `purge_rules`: what each call returns and leaves.
+//! 1. `specs/Needed.antt` and `specs/Calls.antt` of `purge_rules`: which members a number needs,
+//!    and what each call returns and leaves.
 //! 2. `src/master.rt`: the calls. `src/opening.rt`: how a master begins and ends.
 //! 3. `src/news.rt` with `specs/News.antt`: what an acknowledgement changes.
 //! 4. `specs/View.antt`: a master as contracts see it. `specs/Store.antt`: what a call leaves of
@@ -22,7 +23,7 @@
 //!    caller and for the book.
 //! 6. `proofs/NewsLemmas.antt`: why an acknowledgement changes just that.
 //!
-//! A contract sees a `Master` as its members, its state (purges, and whether it is closed) and its
+//! A contract sees a `Master` as its nodes, its state (purges, and whether it is closed) and its
 //! store; a `MasterBook` as its master and its entries. The crate touches its store alone: no
 //! socket, clock or thread.
 //!

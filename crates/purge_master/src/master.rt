@@ -2,17 +2,17 @@ ghost use Rattle.std.specs.Prelude.{◌≡◌, Ok, IfOk, IfSome};
 ghost use Rattle.htcp_wire.specs.Written.{Fits};
 ghost use Rattle.purge_rules.specs.declared.calls.MasterCall.TheVariants as calls;
 ghost use Rattle.purge_rules.specs.declared.calls.MasterAnswer.TheVariants as answers;
+ghost use Rattle.purge_rules.specs.Purges.{admission_at};
 ghost use Rattle.purge_rules.specs.Calls.{Calls, status_of};
-ghost use Rattle.purge_rules.specs.Clear.{message_of};
-ghost use Rattle.purge_master.specs.View.{issue_outcome, acknowledge_outcome, due_outcome};
-ghost use Rattle.purge_master.specs.View.{fault_of as answer_to_fault};
+ghost use Rattle.purge_rules.specs.Clear.{message_of, message_of_admission};
+ghost use Rattle.purge_master.specs.View.{issue_outcome, admit_outcome, acknowledge_outcome};
+ghost use Rattle.purge_master.specs.View.{due_outcome, fault_of as answer_to_fault};
 ghost use Rattle.purge_master.specs.Store.{IsCalled, witness};
 
 use crate::news::{News, news_of};
 use htcp_wire::Htcp;
 use purge_rules::{
-    LAST_NUMBER, MasterFault, MemberSet, PurgeFault, PurgeStore, Purges, Status, clear,
-    is_acknowledging,
+    MasterFault, Nodes, PurgeFault, PurgeStore, Purges, Status, base_clear, clear, is_acknowledging,
 };
 use std::alloc::{AllocError, Global};
 use std::marker::Model;
@@ -21,13 +21,13 @@ use values_plain::Listed;
 
 /// A master of purges, over a store of them.
 ///
-/// A contract sees its members, its state (the purges, and whether it is closed) and its store.
+/// A contract sees its nodes, its state (the purges, and whether it is closed) and its store.
 /// While it is open, no call of its store has failed, and an honest store has committed its purges.
 #[derive(Drop)]
 pub struct Master<S: PurgeStore> {
     pub(crate) alloc: Global,
-    // the members that each purge needs
-    pub(crate) members: MemberSet,
+    // the nodes of the roster
+    pub(crate) nodes: Nodes,
     // the copy of what the store has committed
     pub(crate) purges: Purges,
     // a write failed in the store
@@ -43,9 +43,14 @@ impl<S: PurgeStore> Model for Master<S> {
 
     ghost coded = { Prim.hlevel (codes) };
 
-    ghost view = { λ m. record { members = m.members; state = record { purges = m.purges; closed = m.closed }; store = m.store } };
+    ghost view = { λ m. record {
+      nodes = m.nodes;
+      state = record { purges = m.purges; closed = m.closed };
+      store = m.store;
+    } };
 
-    ghost invariant = { λ m. IsTied m.closed m.purges (S.is_usable m.store) (S.is_honest m.store) (S.content m.store) };
+    ghost invariant = { λ m. IsTied m.closed m.purges (S.is_usable m.store) (S.is_honest m.store)
+        (S.content m.store) };
 }
 
 /// The fault of a call whose store returned this one. A store never returns `BadTable` to a write.
@@ -63,9 +68,9 @@ impl<S: PurgeStore> Master<S> {
     /// then gives the CLR to send.
     ///
     /// Errors: `Closed`, `NumbersSpent` after the number 4294967295, `TooManyPending` if 1,024
-    /// purges are pending; the first that holds, and nothing changes. Else `NoMemory` if an
-    /// allocation failed, which closes the master if it was the store's; or `StoreFault`, which
-    /// closes it.
+    /// purges and admissions are pending; the first that holds, and nothing changes. Else
+    /// `NoMemory` if an allocation failed, which closes the master if it was the store's; or
+    /// `StoreFault`, which closes it.
     pub fn issue(&mut self, key: &Key) -> Result<u32, MasterFault>
         ensures { IsCalled (witness (S.is_honest self.old.store) (S.may_find self.old.store)
             (S.failed self.old.store))
@@ -76,13 +81,10 @@ impl<S: PurgeStore> Master<S> {
         if self.closed {
             return Err(MasterFault::Closed);
         }
+        if let Some(fault) = self.purges.issue_fault() {
+            return Err(fault);
+        }
         let last = self.purges.last();
-        if last == LAST_NUMBER {
-            return Err(MasterFault::NumbersSpent);
-        }
-        if self.purges.is_full() {
-            return Err(MasterFault::TooManyPending);
-        }
         let number = last + 1;
         self.purges.add(self.alloc, number, key)?;
         match self.store.add(self.alloc, number, key) {
@@ -95,13 +97,46 @@ impl<S: PurgeStore> Master<S> {
         }
     }
 
-    /// Takes a member's response to a CLR, with its TRANS-ID and code (RFC 2756, section 6.5).
-    /// Commits what it changes, and returns the number of the purge that it has made done, if any.
+    /// Admits the joining node with this id: gives the next number to its admission, commits it,
+    /// and returns the number. Purges of greater numbers need the node. `message` then gives the
+    /// CLR to send to it.
     ///
-    /// It counts if the code is 0 or 2, the member is in the roster, and a purge with the number
-    /// TRANS-ID is pending. A member that was missing is marked; if then no member is missing, the
-    /// purge is done. A response that comes again changes nothing; but if no member is missing any
-    /// more, as in a file from a larger roster, it makes the purge done.
+    /// Errors: `Closed`, `NotJoining` if no joining node of the roster has this id or it has an
+    /// admission, then those of `issue`; the first that holds, and nothing changes. `NoMemory` and
+    /// `StoreFault` as for `issue`.
+    pub fn admit(&mut self, id: u8) -> Result<u32, MasterFault>
+        ensures { IsCalled (witness (S.is_honest self.old.store) (S.may_find self.old.store)
+            (S.failed self.old.store))
+            (witness (S.is_honest self.new.store) (S.may_find self.new.store)
+            (S.failed self.new.store))
+            self.old self.new (calls.Admit id) (admit_outcome result) }
+    {
+        if self.closed {
+            return Err(MasterFault::Closed);
+        }
+        if let Some(fault) = self.purges.admit_fault(&self.nodes, id) {
+            return Err(fault);
+        }
+        let last = self.purges.last();
+        let next = last + 1;
+        self.purges.admit(next, id)?;
+        match self.store.admit(self.alloc, next, id) {
+            Ok(()) => Ok(next),
+            Err(fault) => {
+                self.purges.take_admission_back(last);
+                self.closed = true;
+                Err(fault_of(fault))
+            }
+        }
+    }
+
+    /// Takes a member's response to a CLR, with its TRANS-ID and code (RFC 2756, section 6.5).
+    /// Commits what it changes, and returns the number that it has made done, if any.
+    ///
+    /// It counts if the code is 0 or 2, and the TRANS-ID is a pending number that needs the member.
+    /// A member that was missing is marked; if then no member is missing, the number is done. A
+    /// response that comes again changes nothing; but if no member is missing any more, as in a
+    /// file from a larger roster, it makes the number done.
     ///
     /// Errors: `Closed`; `StoreFault` or `NoMemory` of the store, which close the master.
     pub fn acknowledge(
@@ -122,10 +157,11 @@ impl<S: PurgeStore> Master<S> {
         if !is_acknowledging(code) {
             return Ok(None);
         }
-        if !self.members.has(member) {
+        let needs = self.purges.needed(&self.nodes, trans);
+        if !needs.has(member) {
             return Ok(None);
         }
-        match news_of(&self.purges, self.members, member, trans) {
+        match news_of(&self.purges, needs, member, trans) {
             News::Nothing => Ok(None),
             News::Mark => match self.store.mark(self.alloc, trans, member) {
                 Ok(()) => {
@@ -150,46 +186,68 @@ impl<S: PurgeStore> Master<S> {
         }
     }
 
-    /// The number of each pending purge with the id of each missing member, by number and then by
-    /// id: the CLRs to send again. Changes nothing.
+    /// Each pending number with the id of each missing member, by number and then by id: the CLRs
+    /// to send again. Changes nothing.
     ///
     /// Errors: `Closed`; `NoMemory` if an allocation failed.
     pub fn due(&self) -> Result<Listed<(u32, u8)>, MasterFault>
-        ensures { Calls self.now.members self.now.state calls.Due
+        ensures { Calls self.now.nodes self.now.state calls.Due
             (due_outcome result) self.now.state }
     {
         if self.closed {
             return Err(MasterFault::Closed);
         }
-        Ok(self.purges.due(self.alloc, self.members)?)
+        Ok(self.purges.due(self.alloc, &self.nodes)?)
     }
 
-    /// How far the purge with this number is. A closed master tells it too. Allocates nothing.
+    /// How far this number is, of a purge or of an admission. A closed master tells it too.
+    /// Allocates nothing.
     pub fn status(&self, number: u32) -> Status
-        ensures value { result ≡ status_of self.now.members self.now.state.purges number }
-        ensures call { Calls self.now.members self.now.state (calls.Status number)
+        ensures value { result ≡ status_of self.now.nodes self.now.state.purges number }
+        ensures call { Calls self.now.nodes self.now.state (calls.Status number)
             (Ok (answers.Status result)) self.now.state }
     {
-        self.purges.status(self.members, number)
+        self.purges.status(&self.nodes, number)
     }
 
-    /// The last number that was given, and the pending purges. A closed master gives them too.
-    /// Allocates nothing.
+    /// The nodes of the roster, for `Purges::needed` and `Purges::missing`. Allocates nothing.
+    pub fn nodes(&self) -> &Nodes
+        ensures { result.now ≡ self.now.nodes }
+    {
+        &self.nodes
+    }
+
+    /// The last number that was given, the pending purges and the admissions. A closed master gives
+    /// them too. Allocates nothing.
     pub fn purges(&self) -> &Purges
         ensures { result.now ≡ self.now.state.purges }
     {
         &self.purges
     }
 
-    /// The CLR of the pending purge with this number, if there is one. A closed master gives it
-    /// too. `htcp_wire::encode` can write it (`fits`).
+    /// The CLR of the pending number: that of its purge, or that of its admission. `None` if it is
+    /// not pending. A closed master gives it too. `htcp_wire::encode` can write it (`fits`).
     pub fn message(&self, number: u32) -> Result<Option<Htcp>, AllocError>
         ensures value { IfOk result (λ message. message ≡ message_of self.now.state.purges number) }
         ensures fits { IfOk result (λ message. IfSome message Fits) }
     {
         match self.purges.find(number) {
             Some(purge) => Ok(Some(clear(self.alloc, purge.number, &purge.key)?)),
-            None => Ok(None),
+            None => self.admission_message(number),
+        }
+    }
+
+    /// The CLR of the admission with this number, if it is pending.
+    fn admission_message(&self, number: u32) -> Result<Option<Htcp>, AllocError>
+        ensures value { IfOk result (λ message. message
+            ≡ message_of_admission (admission_at self.now.state.purges number)) }
+        ensures fits { IfOk result (λ message. IfSome message Fits) }
+    {
+        match self.purges.admission_at(number) {
+            Some(admission) if !admission.is_done => {
+                Ok(Some(base_clear(self.alloc, admission.number)?))
+            }
+            _ => Ok(None),
         }
     }
 }

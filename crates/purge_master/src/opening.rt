@@ -1,12 +1,12 @@
 //! How a master begins and ends.
 ghost use Rattle.std.specs.Prelude.{◌≡◌, ◌≢◌, false, IfOk, Err};
-ghost use Rattle.purge_rules.specs.Members.{members_of};
+ghost use Rattle.purge_rules.specs.Needed.{nodes_of};
 ghost use Rattle.purge_rules.specs.Calls.{opened};
 ghost use Rattle.purge_master.specs.View.{IsTied};
 ghost use Rattle.purge_master.specs.Names.{open_fault_name, open_fault_of as answer_to_fault};
 
 use crate::Master;
-use purge_rules::{MemberSet, PurgeFault, PurgeStore};
+use purge_rules::{Nodes, PurgeFault, PurgeStore};
 use roster::Roster;
 use std::alloc::Global;
 use thiserror::Error;
@@ -51,12 +51,12 @@ fn open_fault_of(fault: PurgeFault) -> MasterOpenFault
 }
 
 impl<S: PurgeStore + Drop> Master<S> {
-    /// An open master of the roster's members, with the purges that its store loads.
+    /// An open master of the roster's nodes, with the purges and admissions that its store loads.
     ///
     /// Errors: `StoreFault`, only if an earlier call of the store failed; `NoMemory` if an
     /// allocation failed. The store is dropped then.
     pub fn open(alloc: Global, roster: &Roster, mut store: S) -> Result<Master<S>, MasterOpenFault>
-        ensures members { IfOk result (λ master. master.members ≡ members_of roster.now) }
+        ensures nodes { IfOk result (λ master. master.nodes ≡ nodes_of roster.now) }
         ensures state { IfOk result (λ master. S.is_honest master.store →
             master.state ≡ opened (S.content store)) }
         ensures store { IfOk result (λ master. master.store ≡ store) }
@@ -69,7 +69,7 @@ impl<S: PurgeStore + Drop> Master<S> {
         };
         Ok(Master {
             alloc,
-            members: MemberSet::of(roster),
+            nodes: Nodes::of(roster),
             purges,
             closed: false,
             store,

@@ -7,7 +7,6 @@ ghost use Rattle.purge_master.specs.Store.{IsCalled, witness};
 
 use crate::Master;
 use purge_rules::{MasterAnswer, MasterCall, MasterFault, PurgeStore};
-use std::alloc::Global;
 use values_plain::Listed;
 
 /// What a call returns.
@@ -28,6 +27,13 @@ impl<S: PurgeStore> Master<S> {
                 Ok(number) => (
                     Ok(MasterAnswer::Issue(number)),
                     Ok(MasterAnswer::Issue(number)),
+                ),
+                Err(fault) => (Err(fault), Err(fault)),
+            },
+            MasterCall::Admit(id) => match self.admit(*id) {
+                Ok(number) => (
+                    Ok(MasterAnswer::Admit(number)),
+                    Ok(MasterAnswer::Admit(number)),
                 ),
                 Err(fault) => (Err(fault), Err(fault)),
             },
@@ -56,7 +62,7 @@ impl<S: PurgeStore> Master<S> {
     /// What is due, twice. If either list cannot be allocated, both outcomes are `NoMemory`.
     fn due_outcome(&self) -> (Outcome, Outcome)
         ensures same { result.1 ≡ result.0 }
-        ensures call { Calls self.now.members self.now.state calls.Due result.0 self.now.state }
+        ensures call { Calls self.now.nodes self.now.state calls.Due result.0 self.now.state }
         ensures fault { result.0 ≢ Err faults.StoreFault }
     {
         match self.due() {

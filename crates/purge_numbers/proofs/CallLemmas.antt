@@ -72,7 +72,8 @@ put_ready old new u n (Ok count) was back h =
 
 pub put_crash : {S : Type 0} (g : Ghosts S) (old new : Held S) (u : List ℕ) (n : ℕ) → IsSettledBy g → (HasCleanDisk (state g old) → IsReady (state g old))
     → Survives (state g old) (state g new) (CommitsBy put_text (put_params u n) (state g old)) → HasCleanDisk (state g new)
-    → (floors : FloorTable) → MayFind (state g new) floors → (floors ≡ committed_floors (state g old)) ⊎ (floors ≡ with_row (committed_floors (state g old)) u n)
+    → (floors : FloorTable) → MayFind (state g new) floors → (floors ≡ committed_floors (state g old))
+    ⊎ (floors ≡ with_row (committed_floors (state g old)) u n)
 put_crash g old new u n settled was survives clean floors may =
     let ready = was (omega (arith, survives.clean)) in
     elim (survives.crash clean may.0 may.1) [

@@ -5,7 +5,7 @@ use Rattle.std.proofs.Common.{if◌then◌else◌}
 use Rattle.std.specs.Result.{IsErrAnd}
 use Rattle.sqlite.specs.declared.types.Value.TheVariants.{Int}
 use Rattle.sqlite_value.specs.Order.{Row, column}
-use Rattle.sqlite_trees.specs.Tree.{Trees, rowid}
+use Rattle.sqlite_trees.specs.Tree.{Trees}
 use Rattle.sqlite_trees.specs.Objects.{number_in}
 use Rattle.sqlite_trees.specs.declared.store.Store.{Ghosts}
 use Rattle.sqlite.specs.Effect.{Database}
@@ -16,7 +16,8 @@ use Rattle.sqlite.specs.declared.error.Error.{Error}
 use Rattle.sqlite.proofs.StateLemmas.{survives_then}
 use Rattle.sqlite.proofs.Callers.{survives_begin}
 use Rattle.purge_tables.specs.Rows.{HasVersion}
-use Rattle.purge_numbers.specs.Tables.{floors_in, rows_of, version_in, base_in, IsBase}
+use Rattle.purge_tables.proofs.VersionLemmas.{version_is}
+use Rattle.purge_numbers.specs.Tables.{floors_in, rows_of, base_in, IsBase}
 use Rattle.purge_numbers.specs.Making.{IsBaseless}
 use Rattle.purge_numbers.specs.Put.{begun, Rebases, FailsInside, FailsToRebase}
 use Rattle.purge_numbers.specs.Writing.{IsCommitted}
@@ -69,10 +70,6 @@ fails_at_commit g old mid exit new C n P (Err e) survives same failed ran = λ c
     inr (mid, ran (omega (arith, survives.clean, clean_exit)), subst (λ h. FailsToCommit (state g mid) (state g h) e) (sym same) (failed clean_exit))
 
 -- ---- which form a file has
-
-version_is : (version : ℕ) (rows : List Row) → HasVersion version rows → version_in rows ≡ version
-version_is version [] h = absurd (cc)
-version_is version (row ∷ rows) h = let id : rowid row ≡ Int (pos version) = cc in ap number_in id
 
 base_is : (number : ℕ) (rows : List Row) → IsBase number rows → base_in rows ≡ number
 base_is number [] h = absurd (cc)

@@ -1,6 +1,6 @@
 -- What the queries of an open show of `form`, `floors` and `base`: each row of the table once, in some
 -- order. They change and commit nothing. `form` and `floors` are read in files of both forms.
-use Rattle.std.proofs.Common.{◌≡◌, ◌⊎◌, inl, inr, ℕ, List, [], map, Ok, Err, Result, IfOk, OnOk, Vec, Global, refl, sym, ap, subst, ◌∙◌}
+use Rattle.std.proofs.Common.{◌≡◌, ◌⊎◌, inl, inr, List, [], map, ap, ◌∙◌}
 use Rattle.std.specs.List.Sorted.{IsPermutation}
 use Rattle.sqlite.specs.declared.types.Value.TheVariants.{Null}
 use Rattle.sqlite_value.specs.Order.{Row}
@@ -9,43 +9,19 @@ use Rattle.sqlite.specs.Program.{overlay}
 use Rattle.sqlite_trees.specs.Tree.{Trees}
 use Rattle.sqlite.specs.Schema.{Schema}
 use Rattle.sqlite.specs.Listing.{understood}
-use Rattle.sqlite.specs.declared.error.Error.{Error}
-use Rattle.sqlite.specs.State.{State, HasCleanDisk, Survives, CommitsShowing, Shown, IsUnchanged}
-use Rattle.sqlite.proofs.StateLemmas.{survives_weaker}
-use Rattle.sqlite.proofs.Callers.{IsPlain, reads_as, never_commits}
+use Rattle.sqlite.specs.State.{State, Shown}
+use Rattle.sqlite.proofs.Callers.{IsPlain, reads_as}
 use Rattle.purge_tables.specs.Rows.{shown_version}
 use Rattle.purge_tables.proofs.Texts.{version_text}
-use Rattle.purge_tables.proofs.QueryLemmas.{answered, all_matched, query_keeps, version_shown}
+use Rattle.purge_tables.proofs.QueryLemmas.{answered, all_matched, plain_in, version_shown}
 use Rattle.purge_numbers.specs.Tables.{first_schema, node_schema, shown_base}
 use Rattle.purge_numbers.specs.Rows.{shown_row}
 use Rattle.purge_numbers.proofs.Texts.{AsksFloors, load_text, load_query, load_is, first_load_is, version_is, first_version_is, ask_text, ask_query, ask_is}
 use Rattle.purge_numbers.proofs.Texts.{ask_plain}
 
--- ---- a query whose text is plain in the schema at hand
-
-module _ (text : List ℕ) (old new : State) (plain : HasCleanDisk old → IsPlain (understood old.now.schema text)) (back : HasCleanDisk new → HasCleanDisk old)
-  where
-    pub asks_same : (r : Result (Vec Row Global) Error) → (HasCleanDisk new → IfOk r (λ rows. Shown text [] old new rows.items)) →
-        OnOk r (HasCleanDisk new → IsUnchanged old new)
-    asks_same (Err e) h = tt
-    asks_same (Ok rows) h = λ clean. query_keeps old.now.schema text (plain (back clean)) old new (λ _. refl) back (Ok rows) h clean
-
-    pub asks_only : Survives old new (CommitsShowing text [] old) → Survives old new (λ _. ⊥)
-    asks_only = survives_weaker old new _ _ (λ clean db. never_commits text [] old db (plain (back clean)))
-
-    pub asks_rows : (Q : List Row → Type 0) → (HasCleanDisk old → (rows : List Row) → Shown text [] old new rows → Q rows) → (r : Result (Vec Row Global) Error)
-        → (HasCleanDisk new → IfOk r (λ rows. Shown text [] old new rows.items)) → IfOk r (λ rows. HasCleanDisk new → Q rows.items)
-    asks_rows Q f (Err e) h = tt
-    asks_rows Q f (Ok rows) h = λ clean. f (back clean) rows.items (h clean)
-
--- ---- the three tables
-
 -- the schema is that of form 1 or of form 2
 abbrev pub IsOfNode : State → Type 0
 IsOfNode s = (s.now.schema ≡ first_schema) ⊎ (s.now.schema ≡ node_schema)
-
-plain_in : (text : List ℕ) (s : State) (schema : Schema) → s.now.schema ≡ schema → IsPlain (understood schema text) → IsPlain (understood s.now.schema text)
-plain_in text s schema has plain = subst (λ x. IsPlain (understood x text)) (sym has) plain
 
 pub version_plain : (s : State) → IsOfNode s → IsPlain (understood s.now.schema version_text)
 version_plain s (inl has) = plain_in version_text s first_schema has first_version_is.plain

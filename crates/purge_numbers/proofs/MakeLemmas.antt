@@ -22,26 +22,28 @@ use Rattle.sqlite.specs.Listing.{understood}
 use Rattle.sqlite.specs.State.{State, HasCleanDisk, Executes, mode_of}
 use Rattle.sqlite.proofs.Callers.{statement_of, runs_as, one_permutation}
 use Rattle.purge_tables.specs.Tables.{form_table, form_schema}
-use Rattle.purge_tables.specs.Making.{IsFormed, Makes}
+use Rattle.purge_tables.specs.Making.{Makes}
 use Rattle.purge_tables.specs.Rows.{HasVersion, shown_version}
 use Rattle.purge_tables.proofs.StatementLemmas.{cast_int, creates, Ran, inside}
 use Rattle.purge_tables.proofs.StepLemmas.{base, task_on, concluded, inserted, updated}
 use Rattle.purge_tables.proofs.QueryLemmas.{answered, all_matched}
 use Rattle.purge_numbers.specs.Tables.{floors_table, base_table, first_schema, node_schema, shown_base}
-use Rattle.purge_numbers.specs.Making.{HasFloors, HasTables, IsVersioned, IsBaseless}
+use Rattle.purge_numbers.specs.Making.{HasForm, HasFloors, HasTables, IsVersioned, IsBaseless}
+use Rattle.purge_numbers.specs.Put.{make_floors_text, make_base_text, start_text}
 use Rattle.purge_numbers.proofs.LookLemmas.{own_value}
 use Rattle.purge_numbers.proofs.Texts as text
 
-floors_step : (old new : State) (count : ℕ) → IsFormed old.now → Executes text.create_floors [] old new (Ok count) → HasFloors [] [] new.now
-floors_step old new count formed h =
-    let made = creates text.create_floors form_schema first_schema (record floors_table { tree = 0 }) text.create_floors_is text.create_floors_text
+floors_step : (versions : List Row) (old new : State) (count : ℕ) → HasForm versions old.now → Executes make_floors_text [] old new (Ok count) →
+    HasFloors versions [] new.now
+floors_step versions old new count formed h =
+    let made = creates make_floors_text form_schema first_schema (record floors_table { tree = 0 }) text.create_floors_is text.create_floors_text
     text.create_floors_plain text.floors_defined text.floors_created refl old new count formed.0 h in
     (made.0, made.2.0 ∙ formed.1, made.1)
 
-base_step : (versions floors : List Row) (old new : State) (count : ℕ) → HasFloors versions floors old.now → Executes text.create_base [] old new (Ok count)
+base_step : (versions floors : List Row) (old new : State) (count : ℕ) → HasFloors versions floors old.now → Executes make_base_text [] old new (Ok count)
     → HasTables versions floors new.now
 base_step versions floors old new count from h =
-    let made = creates text.create_base first_schema node_schema (record base_table { tree = 0 }) text.create_base_is text.create_base_text
+    let made = creates make_base_text first_schema node_schema (record base_table { tree = 0 }) text.create_base_is text.create_base_text
     text.create_base_plain text.base_defined text.base_created refl old new count from.0 h in
     (made.0, made.2.0 ∙ from.1, made.2.1.0 ∙ from.2, made.1)
 
@@ -52,6 +54,7 @@ version_params version = Int (pos version) ∷ []
 abbrev version_row : ℕ → Row
 version_row version = Int (pos version) ∷ cast Integer Null ∷ []
 
+-- `form` was empty, so the row that is put in is its only one; the other tables stay
 name_step : (version : ℕ) (floors : List Row) (old new : State) (count : ℕ) → HasTables [] floors old.now
     → Executes text.name_text (version_params version) old new (Ok count) → IsVersioned version floors new.now
 name_step version floors old new count from h =
@@ -129,12 +132,13 @@ set_step version versions floors old new count was from h =
 
 -- ---- the base starts
 
-start_step : (floors : List Row) (old new : State) (count : ℕ) → IsVersioned 2 floors old.now → Executes text.start_text [] old new (Ok count) →
+-- `base` was empty, so the row that is put in is its only one; the other tables stay
+start_step : (floors : List Row) (old new : State) (count : ℕ) → IsVersioned 2 floors old.now → Executes start_text [] old new (Ok count) →
     IsBaseless floors new.now
 start_step floors old new count from h =
     let db = old.now.trees in
-    let w = runs_as text.start_text [] old new node_schema from.0 text.start_command text.start_is text.start_plain count h in
-    let sql = statement_of text.start_text (understood node_schema text.start_text) in
+    let w = runs_as start_text [] old new node_schema from.0 text.start_command text.start_is text.start_plain count h in
+    let sql = statement_of start_text (understood node_schema start_text) in
     let does = subst (λ s. Does old.step_limit (mode_of old) [] (base s db) sql None text.start_command (Ok (w.tally, new.now))) from.0 w.changed in
     let done = concluded (task_on old.step_limit (mode_of old).keys node_schema base_table []) (mode_of old) text.start_command db w.tally new.now does in
     let step = inserted old.step_limit (mode_of old).keys node_schema base_table [] (Values (lit (Int (pos 1)) ∷ lit Null ∷ lit (Int (pos 0)) ∷ []) 3) db
@@ -154,15 +158,16 @@ start_step floors old new count from h =
 
 -- ---- in a transaction
 
-pub makes_floors : (old new : State) (r : Result ℕ Error) → Ran text.create_floors [] old new r → OnOk r (HasCleanDisk new → Makes IsFormed (HasFloors [] []) old new)
+pub makes_floors : (old new : State) (r : Result ℕ Error) → Ran make_floors_text [] old new r →
+    OnOk r (HasCleanDisk new → (versions : List Row) → Makes (HasForm versions) (HasFloors versions []) old new)
 makes_floors old new (Err e) h = tt
-makes_floors old new (Ok count) h = λ clean on from. let it = inside old new text.create_floors [] count (h clean on) in
-    (it.1, floors_step old new count from it.0)
+makes_floors old new (Ok count) h = λ clean versions on from. let it = inside old new make_floors_text [] count (h clean on) in
+    (it.1, floors_step versions old new count from it.0)
 
-pub makes_base : (old new : State) (r : Result ℕ Error) → Ran text.create_base [] old new r
+pub makes_base : (old new : State) (r : Result ℕ Error) → Ran make_base_text [] old new r
     → OnOk r (HasCleanDisk new → (versions floors : List Row) → Makes (HasFloors versions floors) (HasTables versions floors) old new)
 makes_base old new (Err e) h = tt
-makes_base old new (Ok count) h = λ clean versions floors on from. let it = inside old new text.create_base [] count (h clean on) in
+makes_base old new (Ok count) h = λ clean versions floors on from. let it = inside old new make_base_text [] count (h clean on) in
     (it.1, base_step versions floors old new count from it.0)
 
 pub makes_name : (version : ℕ) (old new : State) (r : Result ℕ Error) → Ran text.name_text (version_params version) old new r
@@ -174,11 +179,12 @@ makes_name version old new (Ok count) h = λ clean floors on from. let it = insi
 pub makes_set : (version : ℕ) (old new : State) (r : Result ℕ Error) → Ran text.set_text (version_params version) old new r
     → OnOk r (HasCleanDisk new → (versions floors : List Row) → HasVersion 1 versions → Makes (HasTables versions floors) (IsVersioned version floors) old new)
 makes_set version old new (Err e) h = tt
-makes_set version old new (Ok count) h = λ clean versions floors was on from. let it = inside old new text.set_text (version_params version) count (h clean on) in
+makes_set version old new (Ok count) h = λ clean versions floors was on from. let it =
+    inside old new text.set_text (version_params version) count (h clean on) in
     (it.1, set_step version versions floors old new count was from it.0)
 
-pub makes_start : (old new : State) (r : Result ℕ Error) → Ran text.start_text [] old new r
+pub makes_start : (old new : State) (r : Result ℕ Error) → Ran start_text [] old new r
     → OnOk r (HasCleanDisk new → (floors : List Row) → Makes (IsVersioned 2 floors) (IsBaseless floors) old new)
 makes_start old new (Err e) h = tt
-makes_start old new (Ok count) h = λ clean floors on from. let it = inside old new text.start_text [] count (h clean on) in
+makes_start old new (Ok count) h = λ clean floors on from. let it = inside old new start_text [] count (h clean on) in
     (it.1, start_step floors old new count from it.0)

@@ -41,7 +41,8 @@ no_base table rows same none is = none is.0 is.1
 few_rows : (table rows : List Row) → IsPermutation (map shown_row table) rows → length rows ≡ length table
 few_rows table rows shown = omega (arith, length_permutation (map shown_row table) rows shown, length-map table shown_row)
 
-read_is : (table rows : List Row) (all : FloorTable) → IsPermutation (map shown_row table) rows → length rows ≤ 65536 → Adds empty rows all.rows → all.base ≡ 0 →
+read_is : (table rows : List Row) (all : FloorTable) → IsPermutation (map shown_row table) rows → length rows ≤ 65536 → Adds empty rows all.rows
+    → all.base ≡ 0 →
     IsRead table all
 read_is table rows all shown few adds base =
     let read = reads_floors table rows all.rows shown adds in (

@@ -49,7 +49,8 @@ use Rattle.sqlite_catalog.proofs.LayoutLemmas.{ascending_filter}
 use Rattle.sqlite_rules.specs.Calls.{ids_of}
 use Rattle.purge_tables.proofs.StatementLemmas.{went, same_value, cast_null, cast_int}
 use Rattle.purge_tables.proofs.QueryLemmas.{answered}
-use Rattle.purge_numbers.specs.Tables.{node_schema, floors_table, rows_of, floors_in, version_in, base_in, IsFloorRow, IsFloorTable, url_index}
+use Rattle.purge_tables.specs.Rows.{version_in}
+use Rattle.purge_numbers.specs.Tables.{node_schema, floors_table, rows_of, floors_in, base_in, IsFloorRow, IsFloorTable, url_index}
 use Rattle.floor_rules.specs.Floors.{with_row}
 use Rattle.purge_numbers.proofs.Texts.{put_command, update_query}
 use Rattle.floor_rules.proofs.Urls.{same_url, equal_urls, own_url}
@@ -284,6 +285,7 @@ module _ (limit : Option ℕ) (keys : Keys) (trees : Trees) (u : List ℕ) (n : 
   clears [] none h = puts none h
   clears (x ∷ more) none h = puts none h
 
+  -- the rowid finds one row alone, that of the url, and the statement puts it back with the new number
   updates : (there : Row) (r : Row) → Has (trees 1) r → same_url (url_of r) u ≡ true → there ≡ rowid r ∷ []
       → Updates (task limit keys u n) (record { lets = []; body = update_query }) (Text u ∷ Int (pos n) ∷ rowid there ∷ Int id ∷ Text u ∷ Int (pos n) ∷ [])
       trees (Ok w) → IsPut trees u n w.trees

@@ -8,63 +8,57 @@ use Rattle.sqlite_schema.specs.declared.command.Command.{Command}
 use Rattle.sqlite_sql.specs.declared.ops.BinaryOp.TheVariants.{Compare}
 use Rattle.sqlite_sql.specs.declared.ops.CompareOp.TheVariants.{Eq}
 use Rattle.sqlite.specs.Collation.TheVariants.{Binary}
-use Rattle.sqlite.specs.Command.TheVariants.{Insert, InsertOr, Update, Delete, Select, CreateTable}
+use Rattle.sqlite.specs.Command.TheVariants.{Insert, InsertOr, Update, Select, CreateTable, DropTable}
 use Rattle.sqlite.specs.Source.TheVariants.{Values}
 use Rattle.sqlite_schema.specs.declared.command.Conflict.TheVariants.{Abort}
 use Rattle.sqlite.specs.Compile.{table_defined_by}
 use Rattle.sqlite.specs.Schema.{Schema}
-use Rattle.sqlite.specs.Change.{created}
+use Rattle.sqlite.specs.Change.{created, without_table}
 use Rattle.sqlite.specs.Listing.{understood, reads_listing}
 use Rattle.sqlite_tied.specs.Compute.{everything}
 use Rattle.sqlite.proofs.Callers.{IsPlain, command_of, statement_of}
 use Rattle.purge_tables.specs.Tables.{form_schema}
 use Rattle.purge_tables.proofs.Texts.{AsksVersion}
-use Rattle.purge_numbers.specs.Put.{put_text, clear_text, base_text}
-use Rattle.purge_numbers.specs.Tables.{floors_table, base_table, first_schema, node_schema}
+use Rattle.purge_numbers.specs.Put.{put_text, base_text, make_floors_text, make_base_text, start_text, drop_floors_text, drop_base_text}
+use Rattle.purge_numbers.specs.Tables.{floors_table, base_table, first_schema, node_schema, rowless_schema}
 
 -- ---- making
 
-abbrev pub create_floors : List ℕ
-create_floors = codes "CREATE TABLE floors (url TEXT PRIMARY KEY NOT NULL, number INTEGER NOT NULL CHECK (number >= 1 AND number <= 4294967295)) STRICT"
-
-pub floors_defined : table_defined_by create_floors ≡ Ok (record floors_table { tree = 0 })
+pub floors_defined : table_defined_by make_floors_text ≡ Ok (record floors_table { tree = 0 })
 unfolding everything
 floors_defined = refl
 
 pub floors_created : created form_schema (record floors_table { tree = 0 }) ≡ first_schema
 floors_created = refl
 
-pub create_floors_is : command_of (understood form_schema create_floors) ≡ CreateTable
+pub create_floors_is : command_of (understood form_schema make_floors_text) ≡ CreateTable
 unfolding understood everything
 create_floors_is = refl
 
-pub create_floors_text : statement_of create_floors (understood form_schema create_floors) ≡ create_floors
+pub create_floors_text : statement_of make_floors_text (understood form_schema make_floors_text) ≡ make_floors_text
 unfolding understood everything
 create_floors_text = refl
 
-pub create_floors_plain : IsPlain (understood form_schema create_floors)
+pub create_floors_plain : IsPlain (understood form_schema make_floors_text)
 unfolding understood everything
 create_floors_plain = (refl, refl)
 
-abbrev pub create_base : List ℕ
-create_base = codes "CREATE TABLE base (id INTEGER PRIMARY KEY CHECK (id = 1), number INTEGER NOT NULL CHECK (number >= 0 AND number <= 4294967295)) STRICT"
-
-pub base_defined : table_defined_by create_base ≡ Ok (record base_table { tree = 0 })
+pub base_defined : table_defined_by make_base_text ≡ Ok (record base_table { tree = 0 })
 unfolding everything
 base_defined = refl
 
 pub base_created : created first_schema (record base_table { tree = 0 }) ≡ node_schema
 base_created = refl
 
-pub create_base_is : command_of (understood first_schema create_base) ≡ CreateTable
+pub create_base_is : command_of (understood first_schema make_base_text) ≡ CreateTable
 unfolding understood everything
 create_base_is = refl
 
-pub create_base_text : statement_of create_base (understood first_schema create_base) ≡ create_base
+pub create_base_text : statement_of make_base_text (understood first_schema make_base_text) ≡ make_base_text
 unfolding understood everything
 create_base_text = refl
 
-pub create_base_plain : IsPlain (understood first_schema create_base)
+pub create_base_plain : IsPlain (understood first_schema make_base_text)
 unfolding understood everything
 create_base_plain = (refl, refl)
 
@@ -109,9 +103,6 @@ pub set_plain : IsPlain (understood node_schema set_text)
 unfolding understood everything
 set_plain = (refl, refl)
 
-abbrev pub start_text : List ℕ
-start_text = codes "INSERT INTO base (id, number) VALUES (1, 0)"
-
 abbrev pub start_command : Command
 start_command = Insert 2 (Values (lit (Int (pos 1)) ∷ lit Null ∷ lit (Int (pos 0)) ∷ []) 3)
 
@@ -152,29 +143,27 @@ pub put_plain : IsPlain (understood node_schema put_text)
 unfolding understood everything
 put_plain = (refl, refl)
 
-abbrev pub clear_query : Query
-clear_query = record {
-  from = inner 1 end;
-  filter = [];
-  group = None;
-  project = col 1 0 ∷ [];
-  distinct = false;
-  collations = [];
-  order = [];
-  limit = lit (Int (negsuc 0));
-  offset = lit (Int (pos 0));
-}
-
-abbrev pub clear_command : Command
-clear_command = Delete 1 (record { lets = []; body = clear_query })
-
-pub clear_is : command_of (understood node_schema clear_text) ≡ clear_command
+pub drop_floors_is : command_of (understood node_schema drop_floors_text) ≡ DropTable 1
 unfolding understood everything
-clear_is = refl
+drop_floors_is = refl
 
-pub clear_plain : IsPlain (understood node_schema clear_text)
+pub drop_floors_plain : IsPlain (understood node_schema drop_floors_text)
 unfolding understood everything
-clear_plain = (refl, refl)
+drop_floors_plain = (refl, refl)
+
+pub floors_dropped : without_table node_schema 1 ≡ rowless_schema
+floors_dropped = refl
+
+pub drop_base_is : command_of (understood rowless_schema drop_base_text) ≡ DropTable 1
+unfolding understood everything
+drop_base_is = refl
+
+pub drop_base_plain : IsPlain (understood rowless_schema drop_base_text)
+unfolding understood everything
+drop_base_plain = (refl, refl)
+
+pub base_dropped : without_table rowless_schema 3 ≡ form_schema
+base_dropped = refl
 
 abbrev pub base_query : Query
 base_query = record {
@@ -256,7 +245,8 @@ ask_query = record {
   offset = lit (Int (pos 0));
 }
 
-pub ask_is : (command_of (understood node_schema ask_text) ≡ Select (record { lets = []; body = ask_query }) (codes "id" ∷ codes "number" ∷ [])) × (reads_listing node_schema ask_text ≡ false)
+pub ask_is : (command_of (understood node_schema ask_text) ≡ Select (record { lets = []; body = ask_query }) (codes "id" ∷ codes "number" ∷ []))
+    × (reads_listing node_schema ask_text ≡ false)
 unfolding understood everything
 ask_is = (refl, refl)
 

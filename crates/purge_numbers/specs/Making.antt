@@ -10,9 +10,22 @@ use Rattle.purge_tables.specs.Making.{IsBlank}
 use Rattle.purge_tables.specs.Rows.{HasVersion}
 use Rattle.purge_numbers.specs.Rows.{AreFloors}
 use Rattle.purge_numbers.specs.Store.{MayFind, committed_floors}
-use Rattle.purge_numbers.specs.Tables.{first_schema, node_schema, rows_of, IsBase, HasBase}
+use Rattle.purge_tables.specs.Tables.{form_schema}
+use Rattle.purge_numbers.specs.Tables.{first_schema, node_schema, rowless_schema, rows_of, IsBase, HasBase}
 
 -- ---- between the statements
+
+-- it has the table `form` alone, with these rows
+abbrev pub HasForm : List Row → Database → Type 0
+HasForm versions db = (db.schema ≡ form_schema) × (db.trees 0 ≡ versions)
+
+-- it has `form` with these rows, and `base`
+abbrev pub HasNoFloors : List Row → Database → Type 0
+HasNoFloors versions db = (db.schema ≡ rowless_schema) × (db.trees 0 ≡ versions)
+
+-- it has the tables of form 2, with these rows in `form`
+abbrev pub HasNode : List Row → Database → Type 0
+HasNode versions db = (db.schema ≡ node_schema) × (db.trees 0 ≡ versions)
 
 -- it has the tables of form 1, with these rows in `form` and in `floors`
 abbrev pub HasFloors : List Row → List Row → Database → Type 0

@@ -3,13 +3,13 @@ ghost use Rattle.std.specs.Prelude.{◌≡◌, ◌≢◌, false, None, IsTrue, I
 ghost use Rattle.sqlite.specs.State.{HasCleanDisk};
 ghost use Rattle.sqlite.specs.Held.{state};
 ghost use Rattle.purge_tables.specs.Making.{IsBlank};
-ghost use Rattle.purge_numbers.specs.Put.{FailsToRaise};
+ghost use Rattle.purge_numbers.specs.Put.{FailsToRaise, FailsToRaiseBase};
 ghost use Rattle.purge_numbers.specs.Making.{IsFileOf, IsFormTwo, IsNodeFile, LeavesNoOther};
 ghost use Rattle.purge_numbers.specs.Making.{OpensWith};
 ghost use Rattle.purge_numbers.specs.Store.{MayFind, committed_floors};
 
 use crate::opening::open_file;
-use crate::writing::raise;
+use crate::writing::{raise, raise_base};
 use floor_rules::{FloorFault, FloorStore, Floors};
 use sqlite::{Alter, Connection};
 use std::alloc::Global;
@@ -39,7 +39,12 @@ impl<S: Alter> Model for SqliteFloors<S> {
 
     ghost coded = { durable_code S.code };
 
-    ghost view = { λ it. record { conn = it.conn; floors = it.floors; is_usable = it.is_usable; failures = it.failures } };
+    ghost view = { λ it. record {
+      conn = it.conn;
+      floors = it.floors;
+      is_usable = it.is_usable;
+      failures = it.failures;
+    } };
 
     ghost invariant = { λ it. IsKept S.Store it.conn it.floors it.is_usable };
 }
@@ -120,6 +125,8 @@ impl<S: Alter> FloorStore for SqliteFloors<S> {
 
     ghost has_cause = { λ old new key number. FailsToRaise S.Store old.conn new.conn key number };
 
+    ghost has_base_cause = { λ old new number. FailsToRaiseBase S.Store old.conn new.conn number };
+
     fn load(&mut self, _alloc: Global) -> Result<Floors, FloorFault> {
         if !self.is_usable {
             self.failures = self.failures.saturating_add(1);
@@ -134,6 +141,25 @@ impl<S: Alter> FloorStore for SqliteFloors<S> {
             return Err(FloorFault::StoreFault);
         }
         match raise(&mut self.conn, &mut self.floors, alloc, key, number) {
+            Ok(()) => Ok(()),
+            Err(FloorFault::StoreFault) => {
+                self.is_usable = false;
+                self.failures = self.failures.saturating_add(1);
+                Err(FloorFault::StoreFault)
+            }
+            Err(_) => {
+                self.is_usable = false;
+                Err(FloorFault::NoMemory)
+            }
+        }
+    }
+
+    fn raise_base(&mut self, number: u32) -> Result<(), FloorFault> {
+        if !self.is_usable {
+            self.failures = self.failures.saturating_add(1);
+            return Err(FloorFault::StoreFault);
+        }
+        match raise_base(&mut self.conn, &mut self.floors, number) {
             Ok(()) => Ok(()),
             Err(FloorFault::StoreFault) => {
                 self.is_usable = false;

@@ -12,13 +12,15 @@
 //! | `open` of form 2 | one SELECT of the version, one of the base, one of all floors |
 //! | `raise` that changes nothing | none |
 //! | `raise` of a row | one INSERT with ON CONFLICT (SQLite, "UPSERT"), which commits by itself |
-//! | `raise` of the base | DELETE of all floors and UPDATE of the base, in one transaction |
+//! | `raise` at a full table | DELETE of all floors and UPDATE of the base, in one transaction |
+//! | `raise_base` that changes nothing | none |
+//! | `raise_base` | UPDATE of the base, which commits by itself |
 //! | `load`, `failures`, `into_connection` | none |
 //!
 //! No transaction stays open between calls; a connection with an open one is refused. A raise
 //! commits first and then changes the duplicate. If that cannot grow, it returns `NoMemory`
-//! although the floor is committed. After `StoreFault`, or `NoMemory` from a raise, each raise and
-//! load returns `StoreFault` until the file is opened again.
+//! although the floor is committed. After `StoreFault`, or `NoMemory` from a raise, of a key or of
+//! the base, each raise and load returns `StoreFault` until the file is opened again.
 //!
 //! The file has three STRICT tables, `form` for the version, `floors`, and `base` for the base;
 //! `docs/FORMATS.md` has their text. A file of form 1 has no `base` and the version 1; an open

@@ -1,15 +1,18 @@
 //! Makes the tables of a blank file, or brings a file of form 1 to form 2, each in one transaction.
-//! Each function states what its statement leads from and to, by `specs/Making`.
-ghost use Rattle.std.specs.Prelude.{◌≡◌, ◌≢◌, ◌⊎◌, ◌<◌, [], List, false, OnOk, Err};
-ghost use Rattle.sqlite.specs.State.{HasCleanDisk, Survives};
+//! Each function states what its statement leads from and to, by `specs/Making`. `writing.rt` makes
+//! tables anew by the same statements.
+ghost use Rattle.std.specs.Prelude.{◌≡◌, ◌≢◌, ◌⊎◌, ◌<◌, [], List, false, IsTrue, OnOk, Err};
+ghost use Rattle.sqlite.specs.State.{HasCleanDisk, Survives, ExecutesInside};
 ghost use Rattle.sqlite.specs.Held.{state};
 ghost use Rattle.sqlite_value.specs.Order.{Row as Values};
 ghost use Rattle.floor_rules.specs.Floors.{no_floors};
-ghost use Rattle.purge_tables.specs.Making.{IsBlank, IsFormed, Makes};
+ghost use Rattle.purge_tables.specs.Making.{IsBlank, Makes};
 ghost use Rattle.purge_tables.specs.Rows.{HasVersion};
 ghost use Rattle.purge_tables.specs.Tables.{empty_schema};
-ghost use Rattle.purge_numbers.specs.Making.{HasFloors, HasTables, IsVersioned, IsBaseless, IsMade};
-ghost use Rattle.purge_numbers.specs.Making.{IsFormOne, LeavesNoOther};
+ghost use Rattle.purge_numbers.specs.Making.{HasForm, HasFloors, HasTables, IsVersioned};
+ghost use Rattle.purge_numbers.specs.Making.{IsBaseless};
+ghost use Rattle.purge_numbers.specs.Making.{IsMade, IsFormOne, LeavesNoOther};
+ghost use Rattle.purge_numbers.specs.Put.{make_base_text, make_floors_text, start_text};
 ghost use Rattle.purge_numbers.specs.Tables.{floors_in};
 
 use crate::fault::fault_of;
@@ -19,11 +22,15 @@ use sqlite::types::ToSql;
 use sqlite::{Alter, Connection, Error, Transaction};
 
 /// Makes the table `floors`.
-fn create_floors<S: Alter>(tx: &mut Transaction<'_, S>) -> Result<usize, Error>
+pub(crate) fn create_floors<S: Alter>(tx: &mut Transaction<'_, S>) -> Result<usize, Error>
     ensures same_reference { tx.new.conn.ghost_name ≡ tx.old.conn.ghost_name }
     ensures made { OnOk result (HasCleanDisk (state S.Store tx.new.conn.now) →
-        Makes IsFormed (HasFloors [] []) (state S.Store tx.old.conn.now)
-        (state S.Store tx.new.conn.now)) }
+        (versions : List Values) → Makes (HasForm versions) (HasFloors versions [])
+        (state S.Store tx.old.conn.now) (state S.Store tx.new.conn.now)) }
+    ensures runs { HasCleanDisk (state S.Store tx.new.conn.now) →
+        IsTrue (state S.Store tx.old.conn.now).in_transaction →
+        ExecutesInside 0 make_floors_text [] (state S.Store tx.old.conn.now)
+        (state S.Store tx.new.conn.now) result }
     ensures survives { Survives (state S.Store tx.old.conn.now) (state S.Store tx.new.conn.now)
         (λ _. ⊥) }
 {
@@ -34,12 +41,16 @@ fn create_floors<S: Alter>(tx: &mut Transaction<'_, S>) -> Result<usize, Error>
 }
 
 /// Makes the table `base`.
-fn create_base<S: Alter>(tx: &mut Transaction<'_, S>) -> Result<usize, Error>
+pub(crate) fn create_base<S: Alter>(tx: &mut Transaction<'_, S>) -> Result<usize, Error>
     ensures same_reference { tx.new.conn.ghost_name ≡ tx.old.conn.ghost_name }
     ensures made { OnOk result (HasCleanDisk (state S.Store tx.new.conn.now) →
         (versions floors : List Values) →
         Makes (HasFloors versions floors) (HasTables versions floors)
         (state S.Store tx.old.conn.now) (state S.Store tx.new.conn.now)) }
+    ensures runs { HasCleanDisk (state S.Store tx.new.conn.now) →
+        IsTrue (state S.Store tx.old.conn.now).in_transaction →
+        ExecutesInside 0 make_base_text [] (state S.Store tx.old.conn.now)
+        (state S.Store tx.new.conn.now) result }
     ensures survives { Survives (state S.Store tx.old.conn.now) (state S.Store tx.new.conn.now)
         (λ _. ⊥) }
 {
@@ -78,11 +89,15 @@ fn set_version<S: Alter>(tx: &mut Transaction<'_, S>, version: u32) -> Result<us
 }
 
 /// Writes the one row of `base`, the number 0.
-fn start_base<S: Alter>(tx: &mut Transaction<'_, S>) -> Result<usize, Error>
+pub(crate) fn start_base<S: Alter>(tx: &mut Transaction<'_, S>) -> Result<usize, Error>
     ensures same_reference { tx.new.conn.ghost_name ≡ tx.old.conn.ghost_name }
     ensures made { OnOk result (HasCleanDisk (state S.Store tx.new.conn.now) →
         (floors : List Values) → Makes (IsVersioned 2 floors) (IsBaseless floors)
         (state S.Store tx.old.conn.now) (state S.Store tx.new.conn.now)) }
+    ensures runs { HasCleanDisk (state S.Store tx.new.conn.now) →
+        IsTrue (state S.Store tx.old.conn.now).in_transaction →
+        ExecutesInside 0 start_text [] (state S.Store tx.old.conn.now)
+        (state S.Store tx.new.conn.now) result }
     ensures survives { Survives (state S.Store tx.old.conn.now) (state S.Store tx.new.conn.now)
         (λ _. ⊥) }
 {

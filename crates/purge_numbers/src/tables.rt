@@ -4,77 +4,17 @@
 //! `is_first_schema` and `is_node_schema`, the last two, are what `opening.rt` calls; the functions
 //! before them compare the parts, by the tests of `purge_tables`. In keys and tests place 0 of a
 //! row is its rowid, and its columns follow from place 1.
-ghost use Rattle.std.specs.Prelude.{◌≡◌, ◌≢◌, ℕ, suc, pos, ◌∷◌, [], false, None, IsTrue};
-ghost use Rattle.sqlite.specs.declared.types.Value.TheVariants.{Int};
-ghost use Rattle.sqlite.specs.Collation.TheVariants.{Binary};
-ghost use Rattle.sqlite_sql.specs.Term.{col, lit, op2};
-ghost use Rattle.sqlite_sql.specs.declared.ops.BinaryOp.TheVariants.{Compare};
-ghost use Rattle.sqlite_schema.specs.Code.{term_in, term_to};
+ghost use Rattle.std.specs.Prelude.{◌≡◌, ◌≢◌, pos, ◌∷◌, [], false, None, IsTrue};
 ghost use Rattle.purge_numbers.specs.Tables.{base_table, floors_table, url_index, first_schema};
 ghost use Rattle.purge_numbers.specs.Tables.{node_schema, id_check, number_check};
 
 use purge_tables::{
-    has_rowid_key, is_column, is_form, is_literal_at, is_named, is_place, is_plain, is_plain_order,
-    operands_at, reads_column_at,
+    has_rowid_key, is_column, is_equal_at, is_form, is_named, is_place, is_plain, is_plain_order,
+    is_range_at, is_unique_place,
 };
 use sqlite_items::Items;
-use sqlite_schema::code::{Op, Terms};
+use sqlite_schema::code::Terms;
 use sqlite_schema::schema::{Column, Index, Kind, Schema, Table};
-use sqlite_sql::ops::{BinaryOp, CompareOp};
-use sqlite_value::keys::Collation;
-
-/// Whether there is one UNIQUE, of this column alone.
-fn is_unique_place(uniques: &Items<Items<usize>>, wanted: usize) -> bool
-    ensures yes { IsTrue result → uniques.now ≡ (wanted ∷ []) ∷ [] }
-    ensures no { result ≡ false → ¬ (uniques.now ≡ (wanted ∷ []) ∷ []) }
-{
-    let [places] = uniques.as_slice() else {
-        return false;
-    };
-    is_place(places, wanted)
-}
-
-/// Whether the node at this index compares the column at this place with this bound.
-fn is_bound_at(nodes: &[Op], at: usize, place: usize, by: CompareOp, bound: i64) -> bool
-    ensures yes { IsTrue result → (depth : ℕ) →
-        term_to nodes.now (suc (suc depth)) at
-        ≡ op2 (Compare by Binary) (col 1 place) (lit (Int bound)) }
-    ensures no { result ≡ false → (depth : ℕ) →
-        term_to nodes.now (suc (suc depth)) at
-        ≢ op2 (Compare by Binary) (col 1 place) (lit (Int bound)) }
-{
-    let Some((left, right)) = operands_at(nodes, at, BinaryOp::Compare(by, Collation::Binary))
-    else {
-        return false;
-    };
-    reads_column_at(nodes, left, place) && is_literal_at(nodes, right, bound)
-}
-
-/// Whether the node at this index is the test that the id is 1.
-fn is_id_check_at(nodes: &[Op], at: usize) -> bool
-    ensures yes { IsTrue result → term_in nodes.now at ≡ id_check }
-    ensures no { result ≡ false → term_in nodes.now at ≢ id_check }
-{
-    if nodes.len() < 2 {
-        return false;
-    }
-    is_bound_at(nodes, at, 0, CompareOp::Eq, 1)
-}
-
-/// Whether the node at this index is the test that `number` is from this one to 4294967295.
-fn is_number_check_at(nodes: &[Op], at: usize, least: i64) -> bool
-    ensures yes { IsTrue result → term_in nodes.now at ≡ number_check least }
-    ensures no { result ≡ false → term_in nodes.now at ≢ number_check least }
-{
-    if nodes.len() < 3 {
-        return false;
-    }
-    let Some((low, high)) = operands_at(nodes, at, BinaryOp::And) else {
-        return false;
-    };
-    is_bound_at(nodes, low, 2, CompareOp::Ge, least)
-        && is_bound_at(nodes, high, 2, CompareOp::Le, 4294967295)
-}
 
 /// Whether there is one CHECK, that `number` is 1 to 4294967295.
 fn is_number_check(terms: &Terms) -> bool
@@ -84,7 +24,7 @@ fn is_number_check(terms: &Terms) -> bool
     let [root] = terms.roots.as_slice() else {
         return false;
     };
-    is_number_check_at(terms.nodes.as_slice(), *root, 1)
+    is_range_at(terms.nodes.as_slice(), *root, 2, 1, 4294967295)
 }
 
 /// Whether there are two CHECKs: that the id is 1, and that `number` is 0 to 4294967295.
@@ -96,7 +36,7 @@ fn has_base_checks(terms: &Terms) -> bool
         return false;
     };
     let nodes = terms.nodes.as_slice();
-    is_id_check_at(nodes, *id) && is_number_check_at(nodes, *number, 0)
+    is_equal_at(nodes, *id, 0, 1) && is_range_at(nodes, *number, 2, 0, 4294967295)
 }
 
 /// Whether the columns are those of `floors`: `url` and `number`.

@@ -77,13 +77,13 @@ without_is (id ∷ ids) rows = without_is ids (without_rowid id rows) ∙ filter
 pub own_rowid : (v : Value) → is_eq (value_cmp v v) ≡ true
 own_rowid v = (eq_by_cmp_equiv value_cmp_total).refl v
 
-is_tied : (o : Ordering) → is_eq o ≡ true → o ≡ Equal
+pub is_tied : (o : Ordering) → is_eq o ≡ true → o ≡ Equal
 is_tied Less h = absurd (cc)
 is_tied Equal h = refl
 is_tied Greater h = absurd (cc)
 
 -- a rowid stands in one row
-same_row : (rows : List Row) (r s : Row) → HasOwnIds rows → Has rows r → Has rows s → rowid r ≡ rowid s → r ≡ s
+pub same_row : (rows : List Row) (r s : Row) → HasOwnIds rows → Has rows r → Has rows s → rowid r ≡ rowid s → r ≡ s
 same_row [] r s own has_r has_s same = absurd has_r
 same_row (x ∷ rows) r s own (inl p) (inl q) same = p ∙ sym q
 same_row (x ∷ rows) r s own (inl p) (inr q) same =

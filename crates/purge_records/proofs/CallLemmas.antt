@@ -1,6 +1,6 @@
 -- What the writing calls do to a connection. A commit leaves what the transaction held, and `mark`
 -- commits by itself; so a crash finds the purges from before the call or from after it.
-use Rattle.std.proofs.Common.{◌≡◌, inl, inr, ℕ, false, [], None, Ok, Err, Result, IsTrue, OnOk, sym, ap, subst, ◌∙◌, append-nil, arith, ◌≤◌}
+use Rattle.std.proofs.Common.{◌≡◌, inl, inr, ℕ, true, false, [], None, Ok, Err, Result, IsTrue, OnOk, sym, ap, subst, ◌∙◌, append-nil, arith, ◌≤◌}
 use Rattle.sqlite_trees.specs.Tree.{Trees}
 use Rattle.sqlite_trees.specs.declared.store.Store.{Ghosts}
 use Rattle.sqlite.specs.Listing.{understood}
@@ -9,14 +9,15 @@ use Rattle.sqlite.specs.Does.{Does}
 use Rattle.sqlite.specs.State.{State, HasCleanDisk, Survives, Shows, KeepsCounts, Executes, CommitsBy, mode_of, text_of}
 use Rattle.sqlite.specs.Held.{Held, state}
 use Rattle.sqlite.specs.declared.error.Error.{Error}
-use Rattle.sqlite.proofs.Callers.{IsPlain, command_of, statement_of, runs_as}
+use Rattle.sqlite.proofs.StateLemmas.{survives_then}
+use Rattle.sqlite.proofs.Callers.{IsPlain, command_of, statement_of, runs_as, survives_begin}
 use Rattle.purge_tables.proofs.StatementLemmas.{IsSettledBy}
+use Rattle.purge_tables.proofs.StepLemmas.{base}
 use Rattle.purge_rules.specs.Purges.{PurgeList, with_mark}
 use Rattle.purge_rules.specs.Store.{IsEither, Misses}
 use Rattle.purge_records.specs.Tables.{master_schema, purges_in}
 use Rattle.purge_records.specs.Store.{IsMaster, IsReady, committed_purges, MayFind}
 use Rattle.purge_records.specs.Writing.{Holds, IsCommitted, Commits}
-use Rattle.purge_records.proofs.StepLemmas.{base}
 use Rattle.purge_records.proofs.WriteLemmas.{mark_params, does_mark}
 use Rattle.purge_records.proofs.Texts.{mark_text, mark_command, mark_is, mark_plain}
 
@@ -124,3 +125,14 @@ write_crash g old new C after settled was survives leads clean found may =
       | inl before ↦ inl (may.2 ∙ ap purges_in (settled old.store may.0 (was clean_old).is_open before))
       | inr commits ↦ inr (may.2 ∙ leads clean_old may.0 commits)
     ]
+
+-- the connection, with a transaction begun
+abbrev pub begun : {S : Type 0} → Held S → Held S
+begun conn = record conn { in_transaction = true }
+
+-- a crash finds what it could find before the transaction, or what it commits
+pub commits_alone : {S : Type 0} (g : Ghosts S) (old : Held S) (mid exit new : State) (R : Trees → Type 0) → Survives (state g (begun old)) mid (λ _. ⊥)
+    → Survives mid exit (λ db. db ≡ mid.now.trees) → (HasCleanDisk mid → R mid.now.trees) → ◌≡◌ {A = State} new exit → Survives (state g old) new R
+commits_alone g old mid exit new R inside commit leads same = subst (λ (s : State). Survives (state g old) s R) (sym same)
+    (survives_begin g old exit R (survives_then (state g (begun old)) mid exit (λ _. ⊥) (λ db. db ≡ mid.now.trees) R (λ _ db none. absurd none)
+    (λ clean db is. subst R (sym is) (leads (omega (arith, commit.clean, clean)))) inside commit))

@@ -1,20 +1,20 @@
--- In this order, beside those of `purge_tables`. Schema: `CheckLemmas` (the CHECK). Statements:
--- `Texts` (what each text means), `StepLemmas` (one edit of one table), `MakeLemmas` (a blank
--- file). Rows: `OrderLemmas` (sorting), `MarkLemmas` (marks), `RowLemmas` (one row more or less),
--- `AnswerLemmas` (what queries find). Writes: `WriteLemmas` (on the file), `CallLemmas` (on a
--- connection). Opening: `LoadLemmas` (the queries), `ReadLemmas` (their rows as purges),
--- `ExistLemmas` (a master's rows can be read), `OpenLemmas` (a file that was read or refused).
-pub mod CheckLemmas
+-- In this order, beside those of `purge_tables`. Statements: `Texts` (what each text means),
+-- `AnswerLemmas` (what queries find), `MakeLemmas` (a blank file, and one of form 1). Rows: `OrderLemmas`
+-- (sorting), `MarkLemmas` (marks), `RowLemmas` (one row more or less), `AdmitLemmas` (admissions),
+-- `ReadLemmas` (rows as purges). Writes: `WriteLemmas` (on the file), `CallLemmas` (on a connection).
+-- Opening: `LoadLemmas` (the queries), `ExistLemmas` (a master's rows can be read), `AdmittedLemmas`
+-- (the same of admissions), `OpenLemmas` (a file that was read or refused).
 pub mod Texts
-pub mod StepLemmas
+pub mod AnswerLemmas
 pub mod MakeLemmas
 pub mod OrderLemmas
 pub mod MarkLemmas
 pub mod RowLemmas
-pub mod AnswerLemmas
+pub mod AdmitLemmas
+pub mod ReadLemmas
 pub mod WriteLemmas
 pub mod CallLemmas
 pub mod LoadLemmas
-pub mod ReadLemmas
 pub mod ExistLemmas
+pub mod AdmittedLemmas
 pub mod OpenLemmas

@@ -1,14 +1,14 @@
 -- Reading the rows in turn makes the purges that the tables mean. Numbers ascend, so two lists of
 -- the same purges are one list (`climbs_same`), in whatever order rows stand in the table. Each
 -- acknowledgement read marks its purge once, so at the end the marks are those of all rows.
-use Rattle.std.proofs.Common.{◌≡◌, ◌⊎◌, inl, inr, ℕ, ℤ, pos, ◌<◌, ◌≤◌, ◌==◌, nat_lt, Bool, true, false, ◌&&◌, ◌||◌, List, [], ◌∷◌, ◌++◌, map, Option, Some}
+use Rattle.std.proofs.Common.{◌≡◌, ◌⊎◌, inl, inr, ℕ, ℤ, pos, ◌<◌, ◌≤◌, ◌==◌, Bool, true, false, ◌&&◌, ◌||◌, List, [], ◌∷◌, ◌++◌, map, Option, Some}
 use Rattle.std.proofs.Common.{None, refl, sym, ap, subst, ◌∙◌, append-nil, append_assoc, arith}
 use Rattle.std.specs.List.{AllByRecursion, list_any, IsDistinct}
 use Rattle.std.specs.List.Sorted.{IsPermutation}
 use Rattle.std.specs.Ordering.{is_eq}
 use Rattle.std.specs.Cmp.{eq_by_cmp_equiv}
 use Rattle.std.specs.declared.cmp.Ordering.TheVariants.{Less}
-use Rattle.std.proofs.lemmas.Bool.{cases_Bool, cases_order, eq-eqb, ne_eqb, eqb-true, eqb-false, ltb-true, ltb-false, both_ways}
+use Rattle.std.proofs.lemmas.Bool.{cases_Bool, eq-eqb, ne_eqb, eqb-true, both_ways}
 use Rattle.std.proofs.lemmas.List.Sorted.{IsPermutation-map, IsPermutation-sym, Contains-permutation, All-permutation, list_any-IsPermutation}
 use Rattle.std.proofs.lemmas.List.Elements.{All-from_recursion, recursion_from_All}
 use Rattle.std.proofs.lemmas.Map.Keys.{IsDistinct-IsPermutation}
@@ -18,16 +18,15 @@ use Rattle.sqlite_value.proofs.OrderLemmas.{value_cmp_total}
 use Rattle.sqlite_trees.specs.Tree.{Trees, rowid, IsAscending}
 use Rattle.sqlite_rules.specs.Lists.{Has}
 use Rattle.sqlite_rules.proofs.ListLemmas.{all_has, all_from, has_contained, contains_had}
-use Rattle.purge_rules.specs.declared.purges.Purge.{Purge}
 use Rattle.purge_rules.specs.Purges.{PurgeList, no_purges, unmarked, with_purge, with_mark}
 use Rattle.purge_rules.specs.Places.{given_to}
-use Rattle.purge_records.specs.Tables.{number_of, url_of, ack_number, ack_member, is_ack, is_purge, marks_in, purge_in, in_place, by_number, last_in, purges_of}
+use Rattle.purge_records.specs.Tables.{number_of, url_of, ack_number, ack_member, is_ack, is_purge, marks_in, purge_in, by_number, last_in, purges_of}
 use Rattle.purge_records.specs.Tables.{IsLast, IsPending, IsAck, HasOwnIds, HasOwnAcks}
 use Rattle.purge_records.specs.Rows.{IsPurgeRow, IsAckRow, Adds, Marks, HasAdded, HasUnmarked, HasMarked, IsRead, shown_pending, shown_ack}
 use Rattle.sqlite_trees.specs.Objects.{number_in}
-use Rattle.purge_records.proofs.RowLemmas.{all_map, marks_one, missed}
+use Rattle.purge_records.proofs.RowLemmas.{its_number, all_map, marks_one, missed}
 use Rattle.purge_records.proofs.MarkLemmas.{same_marks}
-use Rattle.purge_records.proofs.OrderLemmas.{by_number_has, has_by_number}
+use Rattle.purge_records.proofs.OrderLemmas.{Climbs, Differ, climbs_same, climbs_by_number, by_number_has, has_by_number}
 use Rattle.purge_records.proofs.AnswerLemmas.{tied_number}
 
 pub permuted_all : (P : Row → Type 0) (xs ys : List Row) → IsPermutation xs ys → AllByRecursion P xs → AllByRecursion P ys
@@ -92,122 +91,62 @@ adds_is : (p : PurgeList) (rows : List Row) (all : PurgeList) → Adds p rows al
 adds_is p [] all h = ap (λ (q : PurgeList). q.pending) h ∙ sym (append-nil p.pending)
 adds_is p (r ∷ rows) all h = adds_is (with_purge p (number_of r) (url_of r)) rows all h.2 ∙ append_assoc p.pending (purge_in [] r ∷ []) (map (purge_in []) rows)
 
--- ---- purges whose numbers rise
+adds_none : (p : PurgeList) (rows : List Row) (all : PurgeList) → Adds p rows all → all.admissions ≡ p.admissions
+adds_none p [] all h = ap (λ (q : PurgeList). q.admissions) h
+adds_none p (r ∷ rows) all h = adds_none (with_purge p (number_of r) (url_of r)) rows all h.2
 
-abbrev Climbs : List Purge → Type 0
-Climbs = IsAscending (λ a b. a.number < b.number)
+-- ---- rows whose numbers rise
 
--- two such lists of the same purges are one
-climbs_same : (xs ys : List Purge) → Climbs xs → Climbs ys → ((p : Purge) → Has xs p → Has ys p) → ((p : Purge) → Has ys p → Has xs p) → xs ≡ ys
-climbs_same [] [] up_x up_y there back = refl
-climbs_same [] (y ∷ ys) up_x up_y there back = absurd (back y (inl refl))
-climbs_same (x ∷ xs) [] up_x up_y there back = absurd (there x (inl refl))
-climbs_same (x ∷ xs) (y ∷ ys) up_x up_y there back =
-    let same : x ≡ y = first (there x (inl refl)) (back y (inl refl)) in
-    ap (λ p. p ∷ xs) same ∙ ap (λ ps. y ∷ ps) (climbs_same xs ys up_x.1 up_y.1
-    (λ p has. elim (there p (inr has)) [
-      | inl is ↦ absurd (let above = all_has (λ q. x.number < q.number) xs p up_x.0 has in let eq = ap (λ (q : Purge). q.number) (is ∙ sym same) in
-          omega (arith, above, eq))
-      | inr more ↦ more
-    ])
-    (λ p has. elim (back p (inr has)) [
-      | inl is ↦ absurd (let above = all_has (λ q. y.number < q.number) ys p up_y.0 has in let eq = ap (λ (q : Purge). q.number) (is ∙ same) in
-          omega (arith, above, eq))
-      | inr more ↦ more
-    ]))
-  where
-    first : (x ≡ y) ⊎ Has ys x → (y ≡ x) ⊎ Has xs y → x ≡ y
-    first (inl is) other = is
-    first (inr has) (inl is) = sym is
-    first (inr has) (inr more) = absurd (let one = all_has (λ q. y.number < q.number) ys x up_y.0 has in let two =
-        all_has (λ q. x.number < q.number) xs y up_x.0 more in omega (arith, one, two))
-
-abbrev Differ : List Purge → Type 0
-Differ = IsAscending (λ a b. (a.number == b.number) ≡ false)
-
-apart_in_place : (p q : Purge) (qs : List Purge) → p.number < q.number → AllByRecursion (λ x. p.number < x.number) qs →
-    AllByRecursion (λ x. p.number < x.number) (in_place q qs)
-apart_in_place p q qs low all = all_from (λ (x : Purge). p.number < x.number) (in_place q qs) (λ x has. elim (has_in q qs x has) [
-  | inl is ↦ let eq = ap (λ (z : Purge). z.number) is in omega (arith, low, eq)
-  | inr more ↦ all_has (λ (z : Purge). p.number < z.number) qs x all more
-])
-  where
-    has_in : (q : Purge) (qs : List Purge) (x : Purge) → Has (in_place q qs) x → (x ≡ q) ⊎ Has qs x
-    has_in q [] x h = h
-    has_in q (z ∷ qs) x h = elim (cases_Bool (nat_lt q.number z.number)) [
-      | inl below ↦ rw below at h
-      | inr above ↦ elim (rw above at h) [ inl is ↦ inr (inl is) | inr more ↦ elim (has_in q qs x more) [ inl is ↦ inl is | inr has ↦ inr (inr has) ] ]
-    ]
-
-above_first : (p q : Purge) (qs : List Purge) → p.number < q.number → AllByRecursion (λ x. q.number < x.number) qs →
-    AllByRecursion (λ x. p.number < x.number) qs
-above_first p q [] low all = tt
-above_first p q (x ∷ qs) low all = (omega (arith, low, all.0), above_first p q qs low all.1)
-
-climbs_in_place : (p : Purge) (qs : List Purge) → AllByRecursion (λ q. (p.number == q.number) ≡ false) qs → Climbs qs → Climbs (in_place p qs)
-climbs_in_place p [] other up = (tt, tt)
-climbs_in_place p (q ∷ qs) other up = elim (cases_Bool (nat_lt p.number q.number)) [
-  | inl below ↦ let low : p.number < q.number = ltb-true p.number q.number below in rw below ((low, above_first p q qs low up.0), up)
-  | inr above ↦
-      let high : q.number ≤ p.number = ltb-false p.number q.number above in
-      let apart = eqb-false p.number q.number other.0 in
-      let low : q.number < p.number = elim (cases_order p.number q.number)
-      [ inl same ↦ absurd (apart same) | inr o ↦ elim o [ inl less ↦ absurd (omega (arith, less, high)) | inr more ↦ more ] ] in
-      rw above (apart_in_place q p qs low up.0, climbs_in_place p qs other.1 up.1)
-]
-
-climbs_by_number : (xs : List Purge) → Differ xs → Climbs (by_number xs)
-climbs_by_number [] differ = tt
-climbs_by_number (x ∷ xs) differ = climbs_in_place x (by_number xs)
-    (all_from (λ (q : Purge). (x.number == q.number) ≡ false) (by_number xs)
-    (λ q has. all_has (λ (q : Purge). (x.number == q.number) ≡ false) xs q differ.0 (has_by_number xs q has))) (climbs_by_number xs differ.1)
-
-climbs_map : (acks rows : List Row) → IsAscending (λ a b. number_of a < number_of b) rows → Climbs (map (purge_in acks) rows)
-climbs_map acks [] up = tt
-climbs_map acks (r ∷ rows) up = (go rows up.0, climbs_map acks rows up.1)
-  where
-    go : (rows : List Row) → AllByRecursion (λ b. number_of r < number_of b) rows → AllByRecursion (λ (p : Purge). number_of r < p.number)
-        (map (purge_in acks) rows)
-    go [] all = tt
-    go (x ∷ rows) all = (all.0, go rows all.1)
-
-differ_map : (acks rows : List Row) → IsAscending (λ a b. (number_of a == number_of b) ≡ false) rows → Differ (map (purge_in acks) rows)
-differ_map acks [] up = tt
-differ_map acks (r ∷ rows) up = (go rows up.0, differ_map acks rows up.1)
-  where
-    go : (rows : List Row) → AllByRecursion (λ b. (number_of r == number_of b) ≡ false) rows →
-        AllByRecursion (λ (p : Purge). (number_of r == p.number) ≡ false) (map (purge_in acks) rows)
-    go [] all = tt
-    go (x ∷ rows) all = (all.0, go rows all.1)
-
-flip_eqb : (a b : ℕ) → (a == b) ≡ (b == a)
+pub flip_eqb : (a b : ℕ) → (a == b) ≡ (b == a)
 flip_eqb a b = elim (cases_Bool (a == b)) [
   | inl on ↦ on ∙ sym (eq-eqb b a (sym (eqb-true a b on)))
   | inr off ↦ off ∙ sym (ne_eqb b a (λ e. both_ways _ off (eq-eqb a b (sym e))))
 ]
 
-climbing_apart : (rows : List Row) → IsAscending (λ a b. number_of a < number_of b) rows → IsAscending (λ a b. (number_of a == number_of b) ≡ false) rows
-climbing_apart [] up = tt
-climbing_apart (r ∷ rows) up = (
-  all_map (λ b. number_of r < number_of b) (λ b. (number_of r == number_of b) ≡ false) rows
-      (λ b low. ne_eqb (number_of r) (number_of b) (λ e. omega (arith, low, e))) up.0,
-  climbing_apart rows up.1,
-)
+module _ {X : Type 0} (number : X → ℕ) (f : Row → X) where
+  abbrev Ascend : List Row → Type 0
+  Ascend = IsAscending (λ a b. number (f a) < number (f b))
 
--- rows whose numbers rise, in whatever order they stand in a table, are its purges
-pub in_order : (acks table rows : List Row) → IsPermutation table rows → IsAscending (λ a b. number_of a < number_of b) rows →
-    by_number (map (purge_in acks) table) ≡ map (purge_in acks) rows
-in_order acks table rows same up =
-    let there = IsPermutation-map (purge_in acks) table rows same in
-    let back = IsPermutation-sym (map (purge_in acks) table) (map (purge_in acks) rows) there in
-    let apart = permuted_apart (λ a b. number_of a == number_of b) (λ a b. flip_eqb (number_of a) (number_of b)) rows table (IsPermutation-sym table rows same)
-    (climbing_apart rows up) in
-    climbs_same (by_number (map (purge_in acks) table)) (map (purge_in acks) rows) (climbs_by_number (map (purge_in acks) table) (differ_map acks table apart))
-    (climbs_map acks rows up)
-    (λ p has. has_contained _ p (Contains-permutation (map (purge_in acks) table) (map (purge_in acks) rows) p there
-    (contains_had _ p (has_by_number (map (purge_in acks) table) p has))))
-    (λ p has. by_number_has (map (purge_in acks) table) p
-    (has_contained _ p (Contains-permutation (map (purge_in acks) rows) (map (purge_in acks) table) p back (contains_had _ p has))))
+  abbrev Apart : List Row → Type 0
+  Apart = IsAscending (λ a b. (number (f a) == number (f b)) ≡ false)
+
+  climbs_map : (rows : List Row) → Ascend rows → Climbs number (map f rows)
+  climbs_map [] up = tt
+  climbs_map (r ∷ rows) up = (go rows up.0, climbs_map rows up.1)
+    where
+      go : (rows : List Row) → AllByRecursion (λ b. number (f r) < number (f b)) rows → AllByRecursion (λ (x : X). number (f r) < number x) (map f rows)
+      go [] all = tt
+      go (x ∷ rows) all = (all.0, go rows all.1)
+
+  pub differ_map : (rows : List Row) → Apart rows → Differ number (map f rows)
+  differ_map [] up = tt
+  differ_map (r ∷ rows) up = (go rows up.0, differ_map rows up.1)
+    where
+      go : (rows : List Row) → AllByRecursion (λ b. (number (f r) == number (f b)) ≡ false) rows →
+          AllByRecursion (λ (x : X). (number (f r) == number x) ≡ false) (map f rows)
+      go [] all = tt
+      go (x ∷ rows) all = (all.0, go rows all.1)
+
+  pub climbing_apart : (rows : List Row) → Ascend rows → Apart rows
+  climbing_apart [] up = tt
+  climbing_apart (r ∷ rows) up = (
+    all_map (λ b. number (f r) < number (f b)) (λ b. (number (f r) == number (f b)) ≡ false) rows
+        (λ b low. ne_eqb (number (f r)) (number (f b)) (λ e. omega (arith, low, e))) up.0,
+    climbing_apart rows up.1,
+  )
+
+  -- rows whose numbers rise are those of a table, in whatever order they stand there
+  pub in_order : (table rows : List Row) → IsPermutation table rows → Ascend rows → by_number number (map f table) ≡ map f rows
+  in_order table rows same up =
+      let there = IsPermutation-map f table rows same in
+      let back = IsPermutation-sym (map f table) (map f rows) there in
+      let apart = permuted_apart (λ a b. number (f a) == number (f b)) (λ a b. flip_eqb (number (f a)) (number (f b))) rows table
+      (IsPermutation-sym table rows same) (climbing_apart rows up) in
+      climbs_same number (by_number number (map f table)) (map f rows) (climbs_by_number number (map f table) (differ_map table apart)) (climbs_map rows up)
+      (λ p has. has_contained _ p (Contains-permutation (map f table) (map f rows) p there
+      (contains_had _ p (has_by_number number (map f table) p has))))
+      (λ p has. by_number_has number (map f table) p
+      (has_contained _ p (Contains-permutation (map f rows) (map f table) p back (contains_had _ p has))))
 
 -- ---- the rows of `pending` are read
 
@@ -218,7 +157,7 @@ shown_purge : (acks : List Row) (rows : List Row) → map (purge_in acks) (map s
 shown_purge acks [] = refl
 shown_purge acks (r ∷ rows) = ap (λ ps. purge_in acks r ∷ ps) (shown_purge acks rows)
 
-from_shown : (P Q : Row → Type 0) (show : Row → Row) → ((r : Row) → P (show r) → Q r) → (rows : List Row) → AllByRecursion P (map show rows) →
+pub from_shown : (P Q : Row → Type 0) (show : Row → Row) → ((r : Row) → P (show r) → Q r) → (rows : List Row) → AllByRecursion P (map show rows) →
     AllByRecursion Q rows
 from_shown P Q show f [] h = tt
 from_shown P Q show f (r ∷ rows) h = (f r h.0, from_shown P Q show f rows h.1)
@@ -228,7 +167,7 @@ pub to_shown : (P Q : Row → Type 0) (show : Row → Row) → ((r : Row) → P 
 to_shown P Q show f [] h = tt
 to_shown P Q show f (r ∷ rows) h = (f r h.0, to_shown P Q show f rows h.1)
 
-from_shown_apart : (R : Row → Row → Type 0) (show : Row → Row) → ((a b : Row) → R (show a) (show b) → R a b) → (rows : List Row) →
+pub from_shown_apart : (R : Row → Row → Type 0) (show : Row → Row) → ((a b : Row) → R (show a) (show b) → R a b) → (rows : List Row) →
     IsAscending R (map show rows) → IsAscending R rows
 from_shown_apart R show f [] h = tt
 from_shown_apart R show f (r ∷ rows) h = (from_shown (R (show r)) (R r) show (λ x is. f r x is) rows h.0, from_shown_apart R show f rows h.1)
@@ -285,9 +224,11 @@ module _ (one table : List Row) (added purges : PurgeList) (h : HasAdded table a
 
   pub read_is : last_in one ≡ purges.last → purges ≡ purges_of one table []
   read_is same =
-      let pending : purges.pending ≡ by_number (map (purge_in []) table) = ap (λ (p : PurgeList). p.pending) is ∙ adds_is no_purges rows added h.2
-      ∙ sym (in_order [] (map shown_pending table) rows h.1.same (adds_rise no_purges rows added h.2)) ∙ ap by_number (shown_purge [] table) in
-      λ i. record { last = sym same i; pending = pending i }
+      let pending : purges.pending ≡ by_number its_number (map (purge_in []) table) = ap (λ (p : PurgeList). p.pending) is ∙ adds_is no_purges rows added h.2
+      ∙ sym (in_order its_number (purge_in []) (map shown_pending table) rows h.1.same (adds_rise no_purges rows added h.2))
+      ∙ ap (by_number its_number) (shown_purge [] table) in
+      let none : purges.admissions ≡ [] = ap (λ (p : PurgeList). p.admissions) is ∙ adds_none no_purges rows added h.2 in
+      λ i. record { last = sym same i; pending = pending i; admissions = none i }
 
 -- ---- the rows of `acks` are read
 
@@ -371,7 +312,7 @@ module _ (one rows : List Row) where
   -- the purges at the end are those of all acks
   marks_all : (low : Option ℤ) (done acks : List Row) (all : PurgeList) (table : List Row) → Marks low (purges_of one rows done) acks all
       → ((k i : ℕ) → list_any (is_ack k i) table ≡ (list_any (is_ack k i) acks || list_any (is_ack k i) done)) → all ≡ purges_of one rows table
-  marks_all low done [] all table h same = h ∙ sym (λ i. record { last = last_in one; pending = ap by_number (every rows) i })
+  marks_all low done [] all table h same = h ∙ sym (λ i. record { last = last_in one; pending = ap (by_number its_number) (every rows) i; admissions = [] })
     where
       every : (rs : List Row) → map (purge_in table) rs ≡ map (purge_in done) rs
       every [] = refl
@@ -441,7 +382,7 @@ pub all_read : (trees : Trees) (unmarked after : PurgeList) → HasUnmarked tree
 all_read trees unmarked after h marked =
     let same : last_in (trees 1) ≡ unmarked.last = last_is (trees 1) unmarked.last h.last in
     let is = read_is (trees 1) (trees 2) h.added unmarked h.pending h.last h.given h.is same in record {
-      tables = record {
+      rows = record {
         last = subst (λ n. IsLast n (trees 1)) (sym same) h.last;
         high = omega (arith, same, h.high);
         pending = subst (λ n. AllByRecursion (IsPending n) (trees 2)) (sym same)

@@ -1,6 +1,6 @@
 -- What one row more or less makes of the purges: a new last number, a purge, an acknowledgement,
 -- and their removal. Each keeps the rows valid and is the change of `purge_rules` (`with_purge`,
--- `with_mark`, `without_purge`).
+-- `with_mark`, `without_purge`). Admissions are in `AdmitLemmas`.
 use Rattle.std.proofs.Common.{◌≡◌, inl, inr, ℕ, ℤ, pos, ◌<◌, ◌≤◌, ◌==◌, Bool, true, false, not, ◌&&◌, ◌||◌, cond, List, [], ◌∷◌, ◌++◌, map, filter, Option}
 use Rattle.std.proofs.Common.{Some, None, refl, sym, ap, subst, ◌∙◌, arith}
 use Rattle.std.specs.List.{AllByRecursion, list_any}
@@ -16,18 +16,23 @@ use Rattle.sqlite_trees.specs.Tree.{rowid, put_row, IsAscending}
 use Rattle.sqlite_trees.proofs.TreeLemmas.{all-put_row}
 use Rattle.sqlite_rules.specs.Edit.{is_taken}
 use Rattle.sqlite_rules.specs.Lists.{Has}
-use Rattle.sqlite_rules.proofs.ListLemmas.{all_has, all_from, has_found}
+use Rattle.sqlite_rules.proofs.ListLemmas.{all_has, all_from, has_filtered, has_found, some_from, some_has}
 use Rattle.sqlite_rules.proofs.ProbeLemmas.{has_mapped}
 use Rattle.sqlite_catalog.proofs.LayoutLemmas.{ascending_filter}
 use Rattle.url_key.specs.Key.{IsKey}
 use Rattle.purge_rules.specs.declared.purges.Purge.{Purge}
 use Rattle.purge_rules.specs.Members.{is_among, with_id}
-use Rattle.purge_rules.specs.Purges.{is_numbered, pending_at, unmarked, marked_by, with_mark, without_purge}
+use Rattle.purge_rules.specs.Purges.{is_numbered, pending_at, unmarked, marked_by, with_mark}
+use Rattle.purge_rules.specs.Places.{without_purge}
 use Rattle.purge_rules.specs.Store.{Misses, IsUnmarkedBy}
 use Rattle.purge_records.specs.Tables.{number_of, url_of, ack_number, ack_member, is_ack, is_purge, marks_in, purge_in, by_number, last_in, purges_of, IsLast}
 use Rattle.purge_records.specs.Tables.{IsPending, IsAck, AreRows}
 use Rattle.purge_records.proofs.OrderLemmas.{by_number_push, by_number_map, by_number_kept, has_by_number}
 use Rattle.purge_records.proofs.MarkLemmas.{same_marks, no_marks, marks_more, unmarked_has_none}
+
+-- the number of a purge
+abbrev pub its_number : Purge → ℕ
+its_number p = p.number
 
 module _ {X : Type 0} where
   pub all_map : (P Q : X → Type 0) (xs : List X) → ((x : X) → P x → Q x) → AllByRecursion P xs → AllByRecursion Q xs
@@ -45,6 +50,23 @@ module _ {X : Type 0} where
   pub any_push : (p : X → Bool) (xs : List X) (x : X) → list_any p xs ≡ true → list_any p (xs ++ x ∷ []) ≡ true
   any_push p [] x h = absurd (cc)
   any_push p (y ∷ xs) x h = elim (cases_Bool (p y)) [ inl on ↦ rw on refl | inr off ↦ rw off (any_push p xs x (rw off at h)) ]
+
+  pub any_end : (p : X → Bool) (xs : List X) (x : X) → p x ≡ true → list_any p (xs ++ x ∷ []) ≡ true
+  any_end p [] x on = rw on refl
+  any_end p (y ∷ xs) x on = elim (cases_Bool (p y)) [ inl here ↦ rw here refl | inr off ↦ rw off (any_end p xs x on) ]
+
+  pub none_end : (p : X → Bool) (xs : List X) (x : X) → list_any p xs ≡ false → p x ≡ false → list_any p (xs ++ x ∷ []) ≡ false
+  none_end p [] x none off = rw off refl
+  none_end p (y ∷ xs) x none off = elim (cases_Bool (p y)) [
+    | inl here ↦ absurd (let bad : true ≡ false = rw here at none in cc)
+    | inr other ↦ rw other (none_end p xs x (rw other at none) off)
+  ]
+
+  pub none_kept : (p q : X → Bool) (xs : List X) → list_any p xs ≡ false → list_any p (filter q xs) ≡ false
+  none_kept p q xs none = false_from_ne_true _ (λ on.
+      let x = some_has p (filter q xs) on in
+      let there = some_from p xs x.0 (has_filtered q xs x.0 x.1).0 x.2 in
+      absurd (let bad : true ≡ false = sym there ∙ none in cc))
 
   pub same_map : {Y : Type 0} (f g : X → Y) (xs : List X) → AllByRecursion (λ x. f x ≡ g x) xs → map f xs ≡ map g xs
   same_map f g [] h = refl
@@ -78,6 +100,14 @@ given_below one rows acks n are above = all_map (IsPending (last_in one)) (λ r.
 
 -- ---- a purge more
 
+-- no purge has a number that is above all
+pub none_below : (n : ℕ) (rows : List Row) → AllByRecursion (λ r. number_of r < n) rows → list_any (is_purge n) rows ≡ false
+none_below n rows below = false_from_ne_true _ (λ on.
+    let r = some_has (is_purge n) rows on in
+    let low = all_has (λ r. number_of r < n) rows r.0 below r.1 in
+    let same = eqb-true (number_of r.0) n r.2 in
+    absurd (omega (arith, low, same)))
+
 below_Less : (r : Row) (n : ℕ) → rowid r ≡ Int (pos (number_of r)) → number_of r < n → value_cmp (rowid r) (Int (pos n)) ≡ Less
 below_Less r n is low = rw (is) (value_cmp-Int (pos (number_of r)) (pos n) ∙ less (number_of r) n low)
   where
@@ -98,9 +128,10 @@ module _ (one rows acks : List Row) (n : ℕ) (u : List ℕ) (are : AreRows one 
   lesser = all_from (λ r. value_cmp (rowid r) (Int (pos n)) ≡ Less) rows
       (λ r has. below_Less r n (all_has (IsPending (last_in one)) rows r are.pending has).number (all_has (λ r. number_of r < n) rows r below has))
 
-  put_is : put_row (purge_row n u) rows ≡ rows ++ purge_row n u ∷ []
+  pub put_is : put_row (purge_row n u) rows ≡ rows ++ purge_row n u ∷ []
   put_is = put_end (purge_row n u) rows lesser
 
+  -- the new row stands behind all others, and a purge that an acknowledgement names is still there
   pub added_rows : 1 ≤ n → IsKey u → AreRows one (put_row (purge_row n u) rows) acks
   added_rows low key = subst (λ rs. AreRows one rs acks) (sym put_is) (record {
     last = are.last;
@@ -140,18 +171,20 @@ module _ (one rows acks : List Row) (n : ℕ) (u : List ℕ) (are : AreRows one 
   lower [] low = tt
   lower (r ∷ rs) low = (low.0, lower rs low.1)
 
-  pub added_is : purges_of one (put_row (purge_row n u) rows) acks ≡ record { last = n; pending = by_number (map (purge_in acks) rows) ++ unmarked n u ∷ [] }
+  pub added_is : purges_of one (put_row (purge_row n u) rows) acks
+      ≡ record { last = n; pending = by_number its_number (map (purge_in acks) rows) ++ unmarked n u ∷ []; admissions = [] }
   added_is =
       let new : purge_in acks (purge_row n u) ≡ unmarked n u = λ i. record { number = n; key = u; marked = no_marks acks n no_acks i } in
-      let pending : by_number (map (purge_in acks) (put_row (purge_row n u) rows)) ≡ by_number (map (purge_in acks) rows) ++ unmarked n u ∷ [] =
-      ap (λ rs. by_number (map (purge_in acks) rs)) put_is ∙ ap by_number (map_push (purge_in acks) rows (purge_row n u))
-      ∙ by_number_push (map (purge_in acks) rows) (purge_in acks (purge_row n u)) (lower rows below)
-      ∙ ap (λ p. by_number (map (purge_in acks) rows) ++ p ∷ []) new in
-      λ i. record { last = last i; pending = pending i }
+      let pending : by_number its_number (map (purge_in acks) (put_row (purge_row n u) rows)) ≡ by_number its_number (map (purge_in acks) rows)
+      ++ unmarked n u ∷ [] =
+      ap (λ rs. by_number its_number (map (purge_in acks) rs)) put_is ∙ ap (by_number its_number) (map_push (purge_in acks) rows (purge_row n u))
+      ∙ by_number_push its_number (map (purge_in acks) rows) (purge_in acks (purge_row n u)) (lower rows below)
+      ∙ ap (λ p. by_number its_number (map (purge_in acks) rows) ++ p ∷ []) new in
+      λ i. record { last = last i; pending = pending i; admissions = [] }
 
 -- ---- an ack more
 
-put_apart : (R : Row → Row → Type 0) (new : Row) (rows : List Row) → AllByRecursion (λ r. R r new) rows → AllByRecursion (R new) rows → IsAscending R rows →
+pub put_apart : (R : Row → Row → Type 0) (new : Row) (rows : List Row) → AllByRecursion (λ r. R r new) rows → AllByRecursion (R new) rows → IsAscending R rows →
     IsAscending R (put_row new rows)
 put_apart R new [] before after up = (tt, tt)
 put_apart R new (r ∷ rows) before after up = elim (value_cmp (rowid r) (rowid new)) as
@@ -207,14 +240,15 @@ module _ (acks more : List Row) (n m : ℕ) (low : 1 ≤ m) (high : m ≤ 16)
   pub marks_one : (one rows : List Row) → purges_of one rows more ≡ with_mark (purges_of one rows acks) n m
   marks_one one rows = λ i. record {
     last = last_in one;
-    pending = (ap by_number (all_marks rows) ∙ by_number_map mark keeps_number (map (purge_in acks) rows))
+    pending = (ap (by_number its_number) (all_marks rows) ∙ by_number_map its_number mark keeps_number (map (purge_in acks) rows))
         i;
+    admissions = [];
   }
 
 abbrev pub ack_row : ℤ → ℕ → ℕ → Row
 ack_row id n m = Int id ∷ Int (pos n) ∷ Int (pos m) ∷ []
 
-untaken : (rows : List Row) (new : Row) → is_taken rows new ≡ false → AllByRecursion (λ r. is_eq (value_cmp (rowid r) (rowid new)) ≡ false) rows
+pub untaken : (rows : List Row) (new : Row) → is_taken rows new ≡ false → AllByRecursion (λ r. is_eq (value_cmp (rowid r) (rowid new)) ≡ false) rows
 untaken [] new free = tt
 untaken (r ∷ rows) new free = elim (cases_Bool (is_eq (value_cmp (rowid r) (rowid new)))) [
   | inl on ↦ absurd (let h : true ≡ false = rw on at free in cc)
@@ -293,8 +327,8 @@ missed one rows acks n m low high h = go (pending_at (purges_of one rows acks) n
     go : (found : Option Purge) → pending_at (purges_of one rows acks) n ≡ found → IsMissed rows acks n m found
     go None is h = absurd h
     go (Some p) is h =
-        let there = has_found (is_numbered n) (by_number (map (purge_in acks) rows)) p is in
-        let r = has_mapped (purge_in acks) rows p (has_by_number (map (purge_in acks) rows) p there.0) in
+        let there = has_found (is_numbered n) (by_number its_number (map (purge_in acks) rows)) p is in
+        let r = has_mapped (purge_in acks) rows p (has_by_number its_number (map (purge_in acks) rows) p there.0) in
         let number : number_of r.0 ≡ n = ap (λ (q : Purge). q.number) (sym r.2) ∙ eqb-true p.number n there.1 in
         let marks : is_among m (marks_in acks n) ≡ false = ap (λ k. is_among m (marks_in acks k)) (sym number)
         ∙ ap (λ (q : Purge). is_among m q.marked) (sym r.2) ∙ h in
@@ -302,7 +336,7 @@ missed one rows acks n m low high h = go (pending_at (purges_of one rows acks) n
 
 -- ---- the acks of a purge fewer
 
-all_filter : {X : Type 0} (P : X → Type 0) (p : X → Bool) (xs : List X) → AllByRecursion P xs → AllByRecursion P (filter p xs)
+pub all_filter : {X : Type 0} (P : X → Type 0) (p : X → Bool) (xs : List X) → AllByRecursion P xs → AllByRecursion P (filter p xs)
 all_filter P p [] all = tt
 all_filter P p (x ∷ xs) all = elim (cases_Bool (p x)) [ inl on ↦ rw on (all.0, all_filter P p xs all.1) | inr off ↦ rw off (all_filter P p xs all.1) ]
 
@@ -352,8 +386,9 @@ cleared_is one rows acks n =
     let keep = λ (p : Purge). not (is_numbered n p) in
     λ i. record {
       last = last_in one;
-      pending = (sym (by_number_kept keep (map (purge_in (other_acks n acks)) rows)) ∙ ap by_number (others_same n acks rows)
-          ∙ by_number_kept keep (map (purge_in acks) rows)) i;
+      pending = (sym (by_number_kept its_number keep (map (purge_in (other_acks n acks)) rows)) ∙ ap (by_number its_number) (others_same n acks rows)
+          ∙ by_number_kept its_number keep (map (purge_in acks) rows)) i;
+      admissions = [];
     }
 
 -- ---- a purge fewer
@@ -374,6 +409,7 @@ still_owned n k (r ∷ rows) differs h = elim (cases_Bool (number_of r == n)) [
   ]
 ]
 
+-- fewer rows are valid as they were, and no acknowledgement names the purge whose row goes
 pub dropped_rows : (one rows acks : List Row) (n : ℕ) → AreRows one rows acks → AllByRecursion (λ a. (ack_number a == n) ≡ false) acks →
     AreRows one (other_rows n rows) acks
 dropped_rows one rows acks n are none = record {
@@ -405,6 +441,7 @@ pub dropped_is : (one rows acks : List Row) (n : ℕ) → purges_of one (other_r
 dropped_is one rows acks n =
     λ i. record {
       last = last_in one;
-      pending = (ap by_number (rows_kept n acks rows) ∙ by_number_kept (λ p. not (is_numbered n p)) (map (purge_in acks) rows))
+      pending = (ap (by_number its_number) (rows_kept n acks rows) ∙ by_number_kept its_number (λ p. not (is_numbered n p)) (map (purge_in acks) rows))
           i;
+      admissions = [];
     }

@@ -10,6 +10,7 @@ use Rattle.sqlite_sql.specs.declared.ops.CompareOp.TheVariants.{Eq}
 use Rattle.sqlite.specs.Collation.TheVariants.{Binary}
 use Rattle.sqlite.specs.Command.TheVariants.{Insert, Update, Delete, Select, CreateTable}
 use Rattle.sqlite.specs.Source.TheVariants.{Values}
+use Rattle.sqlite.specs.Schema.{Schema}
 use Rattle.sqlite.specs.Compile.{table_defined_by}
 use Rattle.sqlite.specs.Change.{created}
 use Rattle.sqlite.specs.Listing.{understood, reads_listing}
@@ -17,7 +18,7 @@ use Rattle.sqlite_tied.specs.Compute.{everything}
 use Rattle.sqlite.proofs.Callers.{IsPlain, command_of, statement_of}
 use Rattle.purge_tables.specs.Tables.{form_schema}
 use Rattle.purge_tables.proofs.Texts.{AsksVersion}
-use Rattle.purge_records.specs.Tables.{last_table, pending_table, acks_table, last_schema, pending_schema, master_schema}
+use Rattle.purge_records.specs.Tables.{last_table, pending_table, acks_table, admitted_table, last_schema, pending_schema, first_schema, master_schema}
 
 abbrev pub create_last : List ℕ
 create_last = codes "CREATE TABLE last (id INTEGER PRIMARY KEY CHECK (id = 1), number INTEGER NOT NULL) STRICT"
@@ -27,6 +28,9 @@ create_pending = codes "CREATE TABLE pending (number INTEGER PRIMARY KEY, url TE
 
 abbrev pub create_acks : List ℕ
 create_acks = codes "CREATE TABLE acks (number INTEGER NOT NULL, member INTEGER NOT NULL, PRIMARY KEY (number, member)) STRICT"
+
+abbrev pub create_admitted : List ℕ
+create_admitted = codes "CREATE TABLE admitted (member INTEGER PRIMARY KEY CHECK (member >= 1 AND member <= 16), number INTEGER NOT NULL UNIQUE, done INTEGER NOT NULL CHECK (done = 0 OR done = 1)) STRICT"
 
 pub last_defined : table_defined_by create_last ≡ Ok (record last_table { tree = 0 })
 unfolding everything
@@ -40,14 +44,29 @@ pub acks_defined : table_defined_by create_acks ≡ Ok (record acks_table { tree
 unfolding everything
 acks_defined = refl
 
+pub admitted_defined : table_defined_by create_admitted ≡ Ok (record admitted_table { tree = 0 })
+unfolding everything
+admitted_defined = refl
+
 pub last_created : created form_schema (record last_table { tree = 0 }) ≡ last_schema
 last_created = refl
 
 pub pending_created : created last_schema (record pending_table { tree = 0 }) ≡ pending_schema
 pending_created = refl
 
-pub acks_created : created pending_schema (record acks_table { tree = 0 }) ≡ master_schema
+pub acks_created : created pending_schema (record acks_table { tree = 0 }) ≡ first_schema
 acks_created = refl
+
+pub admitted_created : created first_schema (record admitted_table { tree = 0 }) ≡ master_schema
+admitted_created = refl
+
+-- in this schema the text asks this query, whose columns have these names
+pub record Asks (sql : List ℕ) (query : Query) (names : List (List ℕ)) (schema : Schema) : Type 0 where
+  pub command : command_of (understood schema sql) ≡ Select (record { lets = []; body = query }) names
+  pub listing : reads_listing schema sql ≡ false
+  pub plain : IsPlain (understood schema sql)
+
+-- ---- writing
 
 abbrev pub give_text : List ℕ
 give_text = codes "UPDATE last SET number = ?1"
@@ -158,6 +177,49 @@ pub drop_plain : IsPlain (understood master_schema drop_text)
 unfolding understood everything
 drop_plain = (refl, refl)
 
+abbrev pub admit_text : List ℕ
+admit_text = codes "INSERT INTO admitted (member, number, done) VALUES (?1, ?2, 0)"
+
+abbrev pub admit_command : Command
+admit_command = Insert 4 (Values (col 0 0 ∷ lit Null ∷ col 0 1 ∷ lit (Int (pos 0)) ∷ []) 4)
+
+pub admit_is : command_of (understood master_schema admit_text) ≡ admit_command
+unfolding understood everything
+admit_is = refl
+
+pub admit_plain : IsPlain (understood master_schema admit_text)
+unfolding understood everything
+admit_plain = (refl, refl)
+
+abbrev pub end_text : List ℕ
+end_text = codes "UPDATE admitted SET done = 1 WHERE number = ?1"
+
+abbrev pub end_query : Query
+end_query = record {
+  from = inner 5 end;
+  filter = op2 (Compare Eq Binary) (col 1 2) (col 0 0) ∷ [];
+  group = None;
+  project = col 1 0 ∷ col 1 0 ∷ lit Null ∷ col 1 2 ∷ lit (Int (pos 1)) ∷ [];
+  distinct = false;
+  collations = [];
+  order = [];
+  limit = lit (Int (negsuc 0));
+  offset = lit (Int (pos 0));
+}
+
+abbrev pub end_command : Command
+end_command = Update 4 (record { lets = []; body = end_query })
+
+pub end_is : command_of (understood master_schema end_text) ≡ end_command
+unfolding understood everything
+end_is = refl
+
+pub end_plain : IsPlain (understood master_schema end_text)
+unfolding understood everything
+end_plain = (refl, refl)
+
+-- ---- reading
+
 abbrev pub last_text : List ℕ
 last_text = codes "SELECT id, number FROM last"
 
@@ -174,13 +236,16 @@ last_query = record {
   offset = lit (Int (pos 0));
 }
 
-pub last_is : (command_of (understood master_schema last_text) ≡ Select (record { lets = []; body = last_query }) (codes "id" ∷ codes "number" ∷ [])) × (reads_listing master_schema last_text ≡ false)
-unfolding understood everything
-last_is = (refl, refl)
+abbrev pub last_names : List (List ℕ)
+last_names = codes "id" ∷ codes "number" ∷ []
 
-pub last_plain : IsPlain (understood master_schema last_text)
+pub first_last_is : Asks last_text last_query last_names first_schema
 unfolding understood everything
-last_plain = (refl, refl)
+first_last_is = record { command = refl; listing = refl; plain = (refl, refl) }
+
+pub last_is : Asks last_text last_query last_names master_schema
+unfolding understood everything
+last_is = record { command = refl; listing = refl; plain = (refl, refl) }
 
 abbrev pub pending_text : List ℕ
 pending_text = codes "SELECT rowid, number, url FROM pending ORDER BY number"
@@ -198,13 +263,16 @@ pending_query = record {
   offset = lit (Int (pos 0));
 }
 
-pub pending_is : (command_of (understood master_schema pending_text) ≡ Select (record { lets = []; body = pending_query }) (codes "number" ∷ codes "number" ∷ codes "url" ∷ [])) × (reads_listing master_schema pending_text ≡ false)
-unfolding understood everything
-pending_is = (refl, refl)
+abbrev pub pending_names : List (List ℕ)
+pending_names = codes "number" ∷ codes "number" ∷ codes "url" ∷ []
 
-pub pending_plain : IsPlain (understood master_schema pending_text)
+pub first_pending_is : Asks pending_text pending_query pending_names first_schema
 unfolding understood everything
-pending_plain = (refl, refl)
+first_pending_is = record { command = refl; listing = refl; plain = (refl, refl) }
+
+pub pending_is : Asks pending_text pending_query pending_names master_schema
+unfolding understood everything
+pending_is = record { command = refl; listing = refl; plain = (refl, refl) }
 
 abbrev pub acks_text : List ℕ
 acks_text = codes "SELECT rowid, number, member FROM acks ORDER BY rowid"
@@ -222,23 +290,55 @@ acks_query = record {
   offset = lit (Int (pos 0));
 }
 
-pub acks_is : (command_of (understood master_schema acks_text) ≡ Select (record { lets = []; body = acks_query }) (codes "rowid" ∷ codes "number" ∷ codes "member" ∷ [])) × (reads_listing master_schema acks_text ≡ false)
-unfolding understood everything
-acks_is = (refl, refl)
+abbrev pub acks_names : List (List ℕ)
+acks_names = codes "rowid" ∷ codes "number" ∷ codes "member" ∷ []
 
-pub acks_plain : IsPlain (understood master_schema acks_text)
+pub first_acks_is : Asks acks_text acks_query acks_names first_schema
 unfolding understood everything
-acks_plain = (refl, refl)
+first_acks_is = record { command = refl; listing = refl; plain = (refl, refl) }
+
+pub acks_is : Asks acks_text acks_query acks_names master_schema
+unfolding understood everything
+acks_is = record { command = refl; listing = refl; plain = (refl, refl) }
+
+abbrev pub admitted_text : List ℕ
+admitted_text = codes "SELECT rowid, member, number, done FROM admitted ORDER BY number"
+
+abbrev pub admitted_query : Query
+admitted_query = record {
+  from = inner 5 end;
+  filter = [];
+  group = None;
+  project = col 1 0 ∷ col 1 0 ∷ col 1 2 ∷ col 1 3 ∷ [];
+  distinct = false;
+  collations = [];
+  order = (col 1 2, record { collation = Binary; descending = false }) ∷ [];
+  limit = lit (Int (negsuc 0));
+  offset = lit (Int (pos 0));
+}
+
+abbrev pub admitted_names : List (List ℕ)
+admitted_names = codes "member" ∷ codes "member" ∷ codes "number" ∷ codes "done" ∷ []
+
+pub admitted_is : Asks admitted_text admitted_query admitted_names master_schema
+unfolding understood everything
+admitted_is = record { command = refl; listing = refl; plain = (refl, refl) }
+
+pub first_version_is : AsksVersion first_schema
+unfolding understood everything
+first_version_is = record { command = refl; listing = refl; plain = (refl, refl) }
 
 pub version_is : AsksVersion master_schema
 unfolding understood everything
 version_is = record { command = refl; listing = refl; plain = (refl, refl) }
 
+-- ---- making
+
 abbrev pub name_text : List ℕ
-name_text = codes "INSERT INTO form (version) VALUES (1)"
+name_text = codes "INSERT INTO form (version) VALUES (2)"
 
 abbrev pub name_command : Command
-name_command = Insert 0 (Values (lit (Int (pos 1)) ∷ lit Null ∷ []) 2)
+name_command = Insert 0 (Values (lit (Int (pos 2)) ∷ lit Null ∷ []) 2)
 
 pub name_is : command_of (understood master_schema name_text) ≡ name_command
 unfolding understood everything
@@ -247,6 +347,33 @@ name_is = refl
 pub name_plain : IsPlain (understood master_schema name_text)
 unfolding understood everything
 name_plain = (refl, refl)
+
+abbrev pub set_text : List ℕ
+set_text = codes "UPDATE form SET version = 2"
+
+abbrev pub set_query : Query
+set_query = record {
+  from = inner 0 end;
+  filter = [];
+  group = None;
+  project = col 1 0 ∷ lit (Int (pos 2)) ∷ lit Null ∷ [];
+  distinct = false;
+  collations = [];
+  order = [];
+  limit = lit (Int (negsuc 0));
+  offset = lit (Int (pos 0));
+}
+
+abbrev pub set_command : Command
+set_command = Update 0 (record { lets = []; body = set_query })
+
+pub set_is : command_of (understood master_schema set_text) ≡ set_command
+unfolding understood everything
+set_is = refl
+
+pub set_plain : IsPlain (understood master_schema set_text)
+unfolding understood everything
+set_plain = (refl, refl)
 
 abbrev pub start_text : List ℕ
 start_text = codes "INSERT INTO last (id, number) VALUES (1, 0)"
@@ -288,3 +415,12 @@ create_acks_is = (refl, refl)
 pub create_acks_plain : IsPlain (understood pending_schema create_acks)
 unfolding understood everything
 create_acks_plain = (refl, refl)
+
+pub create_admitted_is : (command_of (understood first_schema create_admitted) ≡ CreateTable)
+    × (statement_of create_admitted (understood first_schema create_admitted) ≡ create_admitted)
+unfolding understood everything
+create_admitted_is = (refl, refl)
+
+pub create_admitted_plain : IsPlain (understood first_schema create_admitted)
+unfolding understood everything
+create_admitted_plain = (refl, refl)

@@ -7,14 +7,15 @@ use Rattle.sqlite.specs.Effect.{Database}
 use Rattle.sqlite.specs.State.{State, HasCleanDisk}
 use Rattle.sqlite.specs.Held.{Held, held_code, state}
 use Rattle.purge_rules.specs.declared.purges.Purge.{Purge}
+use Rattle.purge_rules.specs.declared.purges.Admission.{Admission}
 use Rattle.purge_rules.specs.Purges.{PurgeList}
-use Rattle.purge_tables.specs.Rows.{HasVersionOne}
+use Rattle.purge_tables.specs.Rows.{HasVersion}
 use Rattle.purge_records.specs.Tables.{master_schema, purges_in, AreTables}
 
--- it has exactly a master's tables, the version 1, and valid rows
+-- it has exactly a master's tables of form 2, the version 2, and valid rows
 pub record IsMaster (db : Database) : Type 0 where
   pub schema : db.schema ≡ master_schema
-  pub version : HasVersionOne (db.trees 0)
+  pub version : HasVersion 2 (db.trees 0)
   pub tables : AreTables db.trees
 
 -- it is open, outside a transaction, with nothing uncommitted, and holds a master's purges
@@ -45,10 +46,15 @@ abbrev pub purge_code : Coded Purge
 purge_code = code_by (ℕ × (List ℕ × List ℕ)) (coded× coded_ℕ (coded× (coded_list coded_ℕ) (coded_list coded_ℕ)))
     (λ p. (p.number, (p.key, p.marked))) (λ c. record { number = c.0; key = c.1.0; marked = c.1.1 }) (λ _. refl)
 
+-- an admission as a code
+abbrev pub admission_code : Coded Admission
+admission_code = code_by (ℕ × (ℕ × Bool)) (coded× coded_ℕ (coded× coded_ℕ coded_bool)) (λ a. (a.member, (a.number, a.is_done)))
+    (λ c. record { member = c.0; number = c.1.0; is_done = c.1.1 }) (λ _. refl)
+
 -- purges as a code
 abbrev pub purges_code : Coded PurgeList
-purges_code = code_by (ℕ × List Purge) (coded× coded_ℕ (coded_list purge_code)) (λ p. (p.last, p.pending))
-    (λ c. record { last = c.0; pending = c.1 }) (λ _. refl)
+purges_code = code_by (ℕ × (List Purge × List Admission)) (coded× coded_ℕ (coded× (coded_list purge_code) (coded_list admission_code)))
+    (λ p. (p.last, (p.pending, p.admissions))) (λ c. record { last = c.0; pending = c.1.0; admissions = c.1.1 }) (λ _. refl)
 
 -- the store as a code
 abbrev pub durable_code : {S : Type 0} → Coded S → Coded (Durable S)

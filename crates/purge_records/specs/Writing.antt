@@ -3,8 +3,9 @@ use Rattle.std.specs.Prelude.{◌≡◌, ◌<◌, ◌==◌, ℕ, false, IsTrue}
 use Rattle.std.specs.List.{AllByRecursion}
 use Rattle.sqlite.specs.Effect.{Database}
 use Rattle.sqlite.specs.State.{State}
-use Rattle.purge_rules.specs.Purges.{PurgeList, without_purge}
-use Rattle.purge_records.specs.Tables.{number_of, ack_number, purges_in}
+use Rattle.purge_rules.specs.Purges.{PurgeList}
+use Rattle.purge_rules.specs.Places.{given_to, without_purge}
+use Rattle.purge_records.specs.Tables.{number_of, ack_number, admitted_in, admitted_number, purges_in}
 use Rattle.purge_records.specs.Store.{IsMaster}
 
 -- before and after a call: a master's file, with these purges
@@ -12,11 +13,13 @@ pub record Holds (purges : PurgeList) (db : Database) : Type 0 where
   pub master : IsMaster db
   pub same : purges_in db.trees ≡ purges
 
--- inside `add`, after the UPDATE: the number is the last one, and no purge has it or a higher one
+-- inside `add` and `admit`, after the UPDATE: the number is the last one, and no purge and no admission
+-- has it or a higher one
 pub record HasGiven (before : PurgeList) (number : ℕ) (db : Database) : Type 0 where
   pub master : IsMaster db
-  pub same : purges_in db.trees ≡ record { last = number; pending = before.pending }
+  pub same : purges_in db.trees ≡ given_to before number
   pub below : AllByRecursion (λ row. number_of row < number) (db.trees 2)
+  pub admitted : AllByRecursion (λ row. admitted_number row < number) (admitted_in db.trees)
 
 -- inside `finish`, after the first DELETE: the purge of the number has no acknowledgement, and all
 -- others are as before

@@ -1,17 +1,23 @@
 //! Reads the rows of a master's file: purges by ascending number, then acknowledgements by
-//! ascending rowid. So one pass sees a number, a rowid or an acknowledgement that stands twice.
-ghost use Rattle.std.specs.Prelude.{◌≡◌, ◌≢◌, ◌≤◌, ◌<◌, ℕ, ℤ, pos, List, false, None, Some, Err};
-ghost use Rattle.std.specs.Prelude.{IsTrue, IfOk, IfSome, OnOk, OnErr};
+//! ascending rowid, then admissions by ascending number. So one pass sees a number, a rowid or an
+//! acknowledgement that stands twice.
+ghost use Rattle.std.specs.Prelude.{◌≡◌, ◌≢◌, ◌⊎◌, ◌≤◌, ◌<◌, ◌==◌, ◌++◌, ◌∷◌, [], ℕ, ℤ, pos, List};
+ghost use Rattle.std.specs.Prelude.{false, None, Some, Err, IsTrue, IfOk, IfSome, OnOk, OnErr};
+ghost use Rattle.std.specs.List.{list_any};
 ghost use Rattle.sqlite.specs.declared.types.Value.TheVariants.{Int, Text as Words};
 ghost use Rattle.sqlite_value.specs.Order.{column};
 ghost use Rattle.sqlite_trees.specs.Tree.{rowid};
+ghost use Rattle.sqlite_trees.specs.Objects.{number_in};
 ghost use Rattle.url_key.specs.Key.{IsKey};
 ghost use Rattle.purge_rules.specs.Purges.{PurgeList, no_purges, with_purge, with_mark};
+ghost use Rattle.purge_rules.specs.Places.{with_admissions};
 ghost use Rattle.purge_rules.specs.Store.{Misses};
 ghost use Rattle.purge_records.specs.Tables.{number_of, url_of, ack_number, ack_member};
-ghost use Rattle.purge_records.specs.Rows.{IsPurgeRow, IsAbove, IsAckRow, IsReadFault, Adds, Marks};
+ghost use Rattle.purge_records.specs.Tables.{admission_in, admitted_number};
+ghost use Rattle.purge_records.specs.Rows.{IsPurgeRow, IsAbove, IsAckRow, IsAdmissionRow};
+ghost use Rattle.purge_records.specs.Rows.{IsReadFault, Adds, Admits, Follows, Marks};
 
-use purge_rules::{PurgeFault, Purges};
+use purge_rules::{Admission, PurgeFault, Purges};
 use sqlite::Row;
 use sqlite_value::value::ValueRef;
 use std::alloc::Global;
@@ -100,14 +106,14 @@ pub(crate) fn is_missed(purges: &Purges, number: u32, member: u8) -> bool
     }
 }
 
-/// The member in the third column, if it is one of 1 to 16.
-fn member_in(row: &Row) -> Option<u8>
-    ensures some { IfSome result (λ member. (column row.now 2 ≡ Int (pos member)) × (1 ≤ member)
+/// The member in this column, if it is one of 1 to 16.
+fn member_in(row: &Row, at: usize) -> Option<u8>
+    ensures some { IfSome result (λ member. (column row.now at ≡ Int (pos member)) × (1 ≤ member)
         × (member ≤ 16)) }
     ensures none { result ≡ None → (member : ℕ) → 1 ≤ member → member ≤ 16 →
-        column row.now 2 ≢ Int (pos member) }
+        column row.now at ≢ Int (pos member) }
 {
-    let Ok(ValueRef::Int(member)) = row.get_ref(2) else {
+    let Ok(ValueRef::Int(member)) = row.get_ref(at) else {
         return None;
     };
     if member < 1 || member > 16 {
@@ -143,7 +149,7 @@ fn mark_row(purges: &mut Purges, low: Option<i64>, row: &Row) -> Result<i64, Pur
     let Some(id) = next_id(row, low) else {
         return Err(PurgeFault::BadTable);
     };
-    let (Some(number), Some(member)) = (number_in(row, 1), member_in(row)) else {
+    let (Some(number), Some(member)) = (number_in(row, 1), member_in(row, 2)) else {
         return Err(PurgeFault::BadTable);
     };
     if !is_missed(purges, number, member) {
@@ -162,5 +168,122 @@ pub(crate) fn mark_all(purges: &mut Purges, rows: &[Row]) -> Result<(), PurgeFau
     for row in rows {
         low = Some(mark_row(purges, low, row)?);
     }
+    Ok(())
+}
+
+/// Whether the admission of this row is done, if the fourth column is 0 or 1.
+fn done_in(row: &Row) -> Option<bool>
+    ensures some { IfSome result (λ is_done.
+        ((column row.now 3 ≡ Int (pos 0)) ⊎ (column row.now 3 ≡ Int (pos 1)))
+        × (is_done ≡ (number_in (column row.now 3) == 1))) }
+    ensures none { result ≡ None → (column row.now 3 ≢ Int (pos 0))
+        × (column row.now 3 ≢ Int (pos 1)) }
+{
+    match row.get_ref(3) {
+        Ok(ValueRef::Int(0)) => Some(false),
+        Ok(ValueRef::Int(1)) => Some(true),
+        _ => None,
+    }
+}
+
+/// The admission of a row, if it is one.
+fn admission_of(row: &Row) -> Option<Admission>
+    ensures some { IfSome result (λ admission. IsAdmissionRow row.now
+        × (admission ≡ admission_in row.now)) }
+    ensures none { result ≡ None → admitted_number row.now ≤ 4294967295 →
+        ¬ IsAdmissionRow row.now }
+{
+    let member = member_in(row, 0)?;
+    let number = number_in(row, 2)?;
+    let is_done = done_in(row)?;
+    Some(Admission {
+        member,
+        number,
+        is_done,
+    })
+}
+
+/// Whether one of these admissions is of the member.
+fn has_member(admissions: &[Admission], member: u8) -> bool
+    ensures { result ≡ list_any (λ a. a.member == member) admissions.now }
+{
+    admissions.iter().any(|a| a.member == member)
+}
+
+/// Whether the admission may follow these: its number is at most the last one and of no pending
+/// purge, and its member has none.
+fn follows(purges: &Purges, last: u32, admissions: &[Admission], next: &Admission) -> bool
+    requires { last ≡ purges.now.last }
+    ensures yes { IsTrue result → Follows (with_admissions purges.now admissions.now) next.now }
+    ensures no { result ≡ false → ¬ Follows (with_admissions purges.now admissions.now) next.now }
+{
+    next.number <= last
+        && !has_member(admissions, next.member)
+        && purges.find(next.number).is_none()
+}
+
+/// Adds the admission of one row, and returns its number, which is above the one before it.
+/// `BadTable` for a row that is no admission, or may not follow these.
+fn admit_row(
+    purges: &Purges,
+    last: u32,
+    admissions: &mut Vec<Admission>,
+    low: u32,
+    row: &Row,
+) -> Result<u32, PurgeFault>
+    requires { last ≡ purges.now.last }
+    ensures ok { IfOk result (λ number. IsAdmissionRow row.now × (low < admitted_number row.now)
+        × Follows (with_admissions purges.now admissions.old.items) (admission_in row.now)
+        × (number ≡ admitted_number row.now)
+        × (admissions.new.items ≡ admissions.old.items ++ admission_in row.now ∷ [])) }
+    ensures bad { result ≡ Err PurgeFault.BadTable → IsAdmissionRow row.now →
+        low < admitted_number row.now →
+        ¬ Follows (with_admissions purges.now admissions.old.items) (admission_in row.now) }
+    ensures named { IsReadFault result }
+{
+    let Some(next) = admission_of(row) else {
+        return Err(PurgeFault::BadTable);
+    };
+    if next.number <= low || !follows(purges, last, admissions, &next) {
+        return Err(PurgeFault::BadTable);
+    }
+    match admissions.push(next) {
+        Ok(()) => Ok(next.number),
+        Err(_) => Err(PurgeFault::NoMemory),
+    }
+}
+
+/// The admissions of all rows, whose numbers ascend.
+fn admissions_of(
+    alloc: Global,
+    purges: &Purges,
+    last: u32,
+    rows: &[Row],
+) -> Result<Vec<Admission>, PurgeFault>
+    requires { last ≡ purges.now.last }
+    ensures ok { IfOk result (λ admissions. Admits 0 (with_admissions purges.now []) rows.now
+        (with_admissions purges.now admissions.items)) }
+    ensures bad { result ≡ Err PurgeFault.BadTable → (all : PurgeList) →
+        ¬ Admits 0 (with_admissions purges.now []) rows.now all }
+    ensures named { IsReadFault result }
+{
+    let mut admissions = Vec::new(alloc);
+    let mut low = 0;
+    for row in rows {
+        low = admit_row(purges, last, &mut admissions, low, row)?;
+    }
+    Ok(admissions)
+}
+
+/// Sets the admissions to those of all rows, whose numbers ascend.
+pub(crate) fn admit_all(purges: &mut Purges, alloc: Global, rows: &[Row]) -> Result<(), PurgeFault>
+    ensures ok { OnOk result (Admits 0 (with_admissions purges.old []) rows.now purges.new) }
+    ensures bad { result ≡ Err PurgeFault.BadTable → (all : PurgeList) →
+        ¬ Admits 0 (with_admissions purges.old []) rows.now all }
+    ensures named { IsReadFault result }
+{
+    let last = purges.last();
+    let admissions = admissions_of(alloc, purges, last, rows)?;
+    purges.restore(admissions);
     Ok(())
 }

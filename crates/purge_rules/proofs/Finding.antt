@@ -16,7 +16,7 @@ use Rattle.purge_rules.specs.Places.{IsPlaceOf, IsAbsent}
 abbrev pub Ascend : List Purge → Type 0
 Ascend purges = AllPairs (λ a b. a.number < b.number) purges
 
-pub find_none : (p : Purge → Bool) (xs : List Purge) → All (λ x. p x ≡ false) xs → find p xs ≡ None
+pub find_none : {X : Type 0} (p : X → Bool) (xs : List X) → All (λ x. p x ≡ false) xs → find p xs ≡ None
 find_none p [] fails = refl
 find_none p (x ∷ xs) fails =
     ap (λ b. cond b (Some x) (find p xs)) (fails 0 x (omega arith))

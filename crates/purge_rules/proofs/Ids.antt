@@ -1,15 +1,16 @@
 -- A set of members is an array of truth values, place j for id j + 1; the definitions speak of the
 -- list of ids. Each operation on the array does place by place what its definition does id by id.
-use Rattle.std.proofs.Common.{◌≡◌, ℕ, zero, suc, ◌+◌, ◌<◌, ◌≤◌, ◌==◌, nat_lt, Bool, true, false, cond, ◌&&◌, ◌||◌, List, [], ◌∷◌, ◌++◌, map, filter, length}
+use Rattle.std.proofs.Common.{◌≡◌, ℕ, zero, suc, ◌+◌, ◌<◌, ◌≤◌, ◌==◌, nat_lt, Bool, true, false, cond, not, ◌&&◌, ◌||◌, List}
+use Rattle.std.proofs.Common.{[], ◌∷◌, ◌++◌, map, filter, length}
 use Rattle.std.proofs.Common.{get_or, set, take, find, is_some, Some, append_assoc, refl, sym, ap, ◌∙◌, arith}
 use Rattle.std.specs.List.{list_all, list_any}
-use Rattle.std.proofs.lemmas.Bool.{ltb-true, ltb-false}
+use Rattle.std.proofs.lemmas.Bool.{eqb-true, ltb-true, ltb-false}
 use Rattle.std.proofs.lemmas.Bool.Decides.{nat_tests}
 use Rattle.std.proofs.lemmas.List.{map-append, length-set, get_or-set_other}
 use Rattle.std.proofs.lemmas.Grind.{get_or-set_at}
 use Rattle.values_tables.specs.declared.plain.Tables.{Tables}
-use Rattle.roster.specs.Lookups.{is_member}
-use Rattle.purge_rules.specs.Members.{is_among, with_id, ids_from, ids_of, members_of}
+use Rattle.roster.specs.Lookups.{is_member, is_founding}
+use Rattle.purge_rules.specs.Members.{is_among, with_id, possible_ids, ids_from, ids_of, members_of, joining_of}
 use Rattle.purge_rules.specs.MemberPlaces.{among_at}
 
 with_below : (id k : ℕ) (bs : List Bool) → id < k → with_id id (ids_from k bs) ≡ id ∷ ids_from k bs
@@ -126,6 +127,31 @@ true_within (suc j) (b ∷ bs) e = let rest = true_within j bs e in omega arith
 pub with_same : (id k j : ℕ) (bs : List Bool) → id ≡ k + j → get_or bs j false ≡ true → with_id id (ids_from k bs) ≡ ids_from k bs
 with_same id k j bs e is = sym (with_at id k j bs e (true_within j bs is)) ∙ ap (ids_from k) (set_same j bs is)
 
+-- an id is among them after another is added if it is that one, or was among them
+pub among_with : (id other : ℕ) (ids : List ℕ) → is_among id (with_id other ids) ≡ ((other == id) || is_among id ids)
+among_with id other [] = refl
+among_with id other (i ∷ ids) =
+    elim (nat_lt other i) as (λ b. is_among id (cond b (other ∷ i ∷ ids) (cond (i == other) (i ∷ ids) (i ∷ with_id other ids)))
+    ≡ ((other == id) || ((i == id) || is_among id ids))) [
+      | true ↦ refl
+      | false ↦ (elim (i == other) as (λ b. (i == other) ≡ b → is_among id (cond b (i ∷ ids) (i ∷ with_id other ids))
+          ≡ ((other == id) || ((i == id) || is_among id ids))) [
+            | true ↦ λ e. twice (i == id) (other == id) (is_among id ids) (ap (λ j. j == id) (eqb-true i other e))
+            | false ↦ λ e. ap (λ b. (i == id) || b) (among_with id other ids) ∙ swapped (i == id) (other == id) (is_among id ids)
+          ]) refl
+    ]
+  where
+    twice : (a b c : Bool) → a ≡ b → (a || c) ≡ (b || (a || c))
+    twice true true c e = refl
+    twice true false c e = absurd (cc)
+    twice false true c e = absurd (cc)
+    twice false false c e = refl
+
+    swapped : (a b c : Bool) → (a || (b || c)) ≡ (b || (a || c))
+    swapped true true c = refl
+    swapped true false c = refl
+    swapped false b c = refl
+
 -- Pairs
 
 pub paired_true : {X : Type 0} (f : ℕ → X) (j n id : ℕ) (bs : List Bool) (ps qs : List X) → n ≡ j + 1 → id ≡ j + 1 → get_or bs j false ≡ true →
@@ -159,17 +185,27 @@ any_found test [] = refl
 any_found test (x ∷ xs) =
     elim (test x) as (λ b. (b || list_any test xs) ≡ is_some (cond b (Some x) (find test xs))) [ true ↦ refl | false ↦ any_found test xs ]
 
-one_first : (j : ℕ) → j + 1 ≡ 1 + j
+pub one_first : (j : ℕ) → j + 1 ≡ 1 + j
 one_first j = omega arith
+
+-- 16 places that say of each id whether it passes a test
+pub placed : (test : ℕ → Bool) (has : List Bool) → length has ≡ 16 → ((k : ℕ) → k < 16 → get_or has k false ≡ test (k + 1)) →
+    ids_of has ≡ filter test possible_ids
+unfolding trues
+placed test has long at = filtered test 1 (trues 16) has long (λ j l.
+    at j l ∙ ap test (one_first j) ∙ sym (ap (λ b. b && test (1 + j)) (true_at 16 j l)))
 
 pub members_placed : (t : Tables) (has : List Bool) → length has ≡ 16 →
     ((k : ℕ) → k < 16 → get_or has k false ≡ list_any (λ m. m.cache.id == k + 1) t.members) → ids_of has ≡ members_of t
-unfolding members_of trues
-members_placed t has long at = filtered (is_member t) 1 (trues 16) has long (λ j l.
-    at j l ∙ any_found (λ m. m.cache.id == j + 1) t.members
-    ∙ ap (is_member t) (one_first j)
-    ∙ sym (ap (λ b. b && is_member t (1 + j)) (true_at 16 j l)))
+unfolding members_of
+members_placed t has long at = placed (is_member t) has long (λ k l. at k l ∙ any_found (λ m. m.cache.id == k + 1) t.members)
 
+pub joining_placed : (t : Tables) (has : List Bool) → length has ≡ 16 →
+    ((k : ℕ) → k < 16 → get_or has k false ≡ (is_member t (k + 1) && not (is_founding t (k + 1)))) → ids_of has ≡ joining_of t
+unfolding joining_of
+joining_placed t has long at = placed (λ id. is_member t id && not (is_founding t id)) has long at
+
+-- Roster end
 -- one more place is filled: the places up to it are the values of a function of places
 pub one_more : (has : List Bool) (place : ℕ) (here : Bool) (value : ℕ → Bool) → length has ≡ 16 → place < 16 → here ≡ value place →
     ((k : ℕ) → k < place → get_or has k false ≡ value k) →

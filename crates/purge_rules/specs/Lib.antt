@@ -1,8 +1,10 @@
 pub mod Members
 pub mod MemberPlaces
+pub mod Needed
 pub mod Purges
 pub mod Places
 pub mod Calls
+pub mod Waiting
 pub mod Clear
 pub mod Names
 pub mod Store

@@ -1,8 +1,8 @@
 -- For the type `MemberSet`, whose view must have an inverse: ids as 16 truth values, and back, are
--- the same. Only `numbers` is a definition; all else are lemmas. A place is an id less 1.
+-- the same. All here are lemmas. A place is an id less 1.
 use Rattle.std.proofs.Common.{◌≡◌, ℕ, zero, suc, ◌+◌, ◌<◌, ◌==◌, Bool, true, false, ◌||◌, List, [], ◌∷◌, map, length, get_or, refl, sym, ap, ◌∙◌, arith}
 use Rattle.std.proofs.lemmas.Bool.Decides.{nat_tests}
-use Rattle.purge_rules.specs.Members.{is_among, ids_from, ids_of, places_of}
+use Rattle.purge_rules.specs.Members.{numbers, is_among, ids_from, ids_of, places_of}
 
 -- a lesser number is another
 eqb_other : (a b : ℕ) → b < a → (a == b) ≡ false
@@ -26,11 +26,6 @@ among_at id k (suc j) (true ∷ bs) e =
     let other : (k == id) ≡ false = grind (arith, nat_tests) in
     ap (λ b. b || is_among id (ids_from (suc k) bs)) other ∙ among_at id (suc k) j bs (omega arith)
 among_at id k (suc j) (false ∷ bs) e = among_at id (suc k) j bs (omega arith)
-
--- so many numbers, from the first on
-abbrev pub numbers : ℕ → ℕ → List ℕ
-numbers first zero = []
-numbers first (suc n) = first ∷ numbers (suc first) n
 
 -- testing each number gives the truth values back
 pub places_back : (test : ℕ → Bool) (k : ℕ) (bs : List Bool) → ((j : ℕ) → test (k + j) ≡ get_or bs j false) →

@@ -1,8 +1,13 @@
 -- Sets of members, as their ids in ascending order.
-use Rattle.std.specs.Prelude.{ℕ, suc, Bool, true, false, ◌==◌, nat_lt, List, [], ◌∷◌, map, filter, if◌then◌else◌}
+use Rattle.std.specs.Prelude.{ℕ, zero, suc, Bool, true, false, not, ◌&&◌, ◌==◌, nat_lt, List, [], ◌∷◌, map, filter, if◌then◌else◌}
 use Rattle.std.specs.List.{list_any, list_all}
 use Rattle.values_tables.specs.declared.plain.Tables.{Tables}
-use Rattle.roster.specs.Lookups.{is_member}
+use Rattle.roster.specs.Lookups.{is_member, is_founding}
+
+-- so many numbers, from the first on
+abbrev pub numbers : ℕ → ℕ → List ℕ
+numbers first zero = []
+numbers first (suc n) = first ∷ numbers (suc first) n
 
 -- the id is one of these
 abbrev pub is_among : ℕ → List ℕ → Bool
@@ -24,6 +29,10 @@ possible_ids = 1 ∷ 2 ∷ 3 ∷ 4 ∷ 5 ∷ 6 ∷ 7 ∷ 8 ∷ 9 ∷ 10 ∷ 11 �
 -- the ids of the members of a roster
 unfoldable pub members_of : Tables → List ℕ
 members_of t = filter (is_member t) possible_ids
+
+-- the ids of its joining members
+unfoldable pub joining_of : Tables → List ℕ
+joining_of t = filter (λ id. is_member t id && not (is_founding t id)) possible_ids
 
 -- the numbers of the true places, if the first place has this number
 abbrev pub ids_from : ℕ → List Bool → List ℕ

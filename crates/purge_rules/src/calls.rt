@@ -5,12 +5,12 @@ use std::alloc::{AllocError, Global};
 use url_key::Key;
 use values_plain::Listed;
 
-/// How far the purge of a number is.
+/// How far the purge or the admission of a number is.
 #[derive(Clone, Copy, Debug, PartialEq, Eq)]
 pub enum Status {
     /// The number is 0, or was not given yet.
     Unknown,
-    /// It is pending: so many members, 0 to 16, have not acknowledged it.
+    /// It is pending: so many of the members that it needs, 0 to 16, have not acknowledged it.
     Pending(u8),
     /// It was given, and is pending no longer.
     Done,
@@ -21,6 +21,8 @@ pub enum Status {
 pub enum MasterCall {
     /// Issue a purge of the URL with this key.
     Issue(Key),
+    /// Admit the joining node with this id: from then on it takes part in purges.
+    Admit(u8),
     /// Take a member's response to a CLR (RFC 2756, section 6.5).
     Acknowledge {
         /// The member's id.
@@ -33,11 +35,11 @@ pub enum MasterCall {
     },
     /// List what to send again.
     Due,
-    /// Tell the status of the purge of this number.
+    /// Tell the status of this number.
     Status(u32),
 }
 
-/// Whether a response to a CLR with this code acknowledges the purge: 0 (the entity was held and is
+/// Whether a response to a CLR with this code acknowledges it: 0 (the entity was held and is
 /// gone) and 2 (it was not held) do (RFC 2756, section 6.5).
 pub fn is_acknowledging(code: u8) -> bool
     ensures { result ≡ acknowledges code }
@@ -50,12 +52,13 @@ pub fn is_acknowledging(code: u8) -> bool
 pub enum MasterAnswer {
     /// The number that the purge got.
     Issue(u32),
-    /// The number of the purge that this response has made done, if any.
+    /// The number that the admission got.
+    Admit(u32),
+    /// The number that this response has made done, if any.
     Acknowledge(Option<u32>),
-    /// The number of each pending purge with the id of each missing member, by number and then by
-    /// id.
+    /// Each pending number with the id of each missing member, by number and then by id.
     Due(Listed<(u32, u8)>),
-    /// The status of the purge.
+    /// The status of the number.
     Status(Status),
 }
 
@@ -66,6 +69,7 @@ impl MasterCall {
     {
         Ok(match self {
             MasterCall::Issue(key) => MasterCall::Issue(key.copy(alloc)?),
+            MasterCall::Admit(id) => MasterCall::Admit(*id),
             MasterCall::Acknowledge {
                 member,
                 trans,
@@ -88,6 +92,7 @@ impl MasterAnswer {
     {
         Ok(match self {
             MasterAnswer::Issue(number) => MasterAnswer::Issue(*number),
+            MasterAnswer::Admit(number) => MasterAnswer::Admit(*number),
             MasterAnswer::Acknowledge(done) => MasterAnswer::Acknowledge(*done),
             MasterAnswer::Due(pairs) => MasterAnswer::Due(Listed::new(Vec::from_slice(
                 alloc,

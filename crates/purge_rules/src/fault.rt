@@ -46,9 +46,9 @@ impl From<AllocError> for PurgeFault {
 
 /// Why a call on a master fails.
 ///
-/// A master tests for `Closed`, `NumbersSpent` and `TooManyPending`, in this order, and returns
-/// `StoreFault` or `NoMemory` only if none of them holds. A book tests for `ShiftFull` first, then
-/// allocates an entry (`NoMemory`), and only then calls the master.
+/// A master tests for `Closed`, `NotJoining`, `NumbersSpent` and `TooManyPending`, in this order,
+/// and returns `StoreFault` or `NoMemory` only if none of them holds. A book tests for
+/// `ShiftFull` first, then allocates an entry (`NoMemory`), and only then calls the master.
 #[derive(Clone, Copy, Debug, PartialEq, Eq, Error)]
 pub enum MasterFault {
     /// An earlier write failed in the store, by `StoreFault` or `NoMemory`. Nothing has changed.
@@ -59,10 +59,10 @@ pub enum MasterFault {
     #[error("the book of calls is full")]
     ShiftFull,
     /// The last number, 4294967295, was given. Nothing has changed.
-    #[error("no purge number is left")]
+    #[error("no number is left")]
     NumbersSpent,
-    /// 1,024 purges are pending. Nothing has changed.
-    #[error("1,024 purges are pending")]
+    /// 1,024 numbers are pending, of purges and of admissions. Nothing has changed.
+    #[error("1,024 purges and admissions are pending")]
     TooManyPending,
     /// The store failed in a call that writes. The master is closed, and nothing else of it has
     /// changed. The stored purges are those from before the call or from after it.
@@ -72,6 +72,10 @@ pub enum MasterFault {
     /// returned it; then the stored purges are those from before the call or from after it.
     #[error("there was no memory")]
     NoMemory,
+    /// No joining node of the roster has this id, or it has an admission. Nothing has changed. Only
+    /// an admission returns it.
+    #[error("no node of this id waits to join")]
+    NotJoining,
 }
 
 impl MasterFault {
@@ -86,6 +90,7 @@ impl MasterFault {
             MasterFault::TooManyPending => "TooManyPending",
             MasterFault::StoreFault => "StoreFault",
             MasterFault::NoMemory => "NoMemory",
+            MasterFault::NotJoining => "NotJoining",
         }
     }
 }

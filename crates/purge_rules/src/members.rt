@@ -1,8 +1,9 @@
 //! Sets of members.
-ghost use Rattle.std.specs.Prelude.{◌≡◌, ◌≤◌, ◌==◌, ◌++◌, [], length, filter, map, not, IsTrue};
-ghost use Rattle.std.specs.Prelude.{OnOk};
+ghost use Rattle.std.specs.Prelude.{◌≡◌, ◌≤◌, ◌==◌, ◌++◌, ◌&&◌, [], length, filter, map, not};
+ghost use Rattle.std.specs.Prelude.{IsTrue, OnOk};
 ghost use Rattle.std.specs.List.{list_any};
-ghost use Rattle.purge_rules.specs.Members.{is_among, with_id, are_among, members_of};
+ghost use Rattle.roster.specs.Lookups.{is_member, is_founding};
+ghost use Rattle.purge_rules.specs.Members.{is_among, with_id, are_among, members_of, joining_of};
 
 use roster::{Member, Roster};
 use std::alloc::AllocError;
@@ -59,6 +60,17 @@ impl MemberSet {
         MemberSet { has }
     }
 
+    /// The joining members of a roster.
+    pub fn joining(roster: &Roster) -> MemberSet
+        ensures { result ≡ joining_of roster.now }
+    {
+        let mut has = [false; MOST_MEMBERS];
+        for place in 0..16u8 {
+            has[usize::from(place)] = is_joining(roster, place + 1);
+        }
+        MemberSet { has }
+    }
+
     /// Whether the id is in the set. If it is, it is 1 to 16, and inserting it changes nothing.
     pub fn has(self, id: u8) -> bool
         ensures value { result ≡ is_among id self }
@@ -103,6 +115,18 @@ impl MemberSet {
         MemberSet { has }
     }
 
+    /// The member of this set with this id alone, if there is one.
+    pub(crate) fn only(self, id: u8) -> MemberSet
+        ensures { result ≡ filter (λ i. id == i) self }
+    {
+        let wanted = usize::from(id);
+        let mut has = [false; MOST_MEMBERS];
+        for place in 0..MOST_MEMBERS {
+            has[place] = self.has[place] && wanted == place + 1;
+        }
+        MemberSet { has }
+    }
+
     /// How many members there are, at most 16.
     pub fn count(self) -> u8
         ensures { result ≡ length self }
@@ -135,4 +159,11 @@ fn has_member(members: &[Member], id: u8) -> bool
     ensures { result ≡ list_any (λ m. m.cache.id == id) members.now }
 {
     members.iter().any(|member| member.cache.id == id)
+}
+
+/// Whether a member has this id, and joins.
+fn is_joining(roster: &Roster, id: u8) -> bool
+    ensures { result ≡ (is_member roster.now id && not (is_founding roster.now id)) }
+{
+    roster.is_member(id) && !roster.is_founding(id)
 }

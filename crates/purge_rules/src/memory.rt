@@ -9,7 +9,7 @@ use url_key::Key;
 
 /// A store of purges in memory. No crash changes it, and no call returns `StoreFault`.
 ///
-/// A contract sees the last number and the pending purges (`PurgeList`).
+/// A contract sees the last number, the pending purges and the admissions (`PurgeList`).
 #[derive(Debug, Drop)]
 pub struct MemoryPurges {
     purges: Purges,
@@ -24,7 +24,7 @@ impl Model for MemoryPurges {
 }
 
 impl MemoryPurges {
-    /// No purge was issued. Allocates nothing.
+    /// No number was given. Allocates nothing.
     pub fn new(alloc: Global) -> MemoryPurges
         ensures { result ≡ no_purges }
     {
@@ -51,6 +51,11 @@ impl PurgeStore for MemoryPurges {
 
     fn add(&mut self, alloc: Global, number: u32, key: &Key) -> Result<(), PurgeFault> {
         self.purges.add(alloc, number, key)?;
+        Ok(())
+    }
+
+    fn admit(&mut self, _alloc: Global, number: u32, member: u8) -> Result<(), PurgeFault> {
+        self.purges.admit(number, member)?;
         Ok(())
     }
 

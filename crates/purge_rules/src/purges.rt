@@ -1,21 +1,24 @@
-//! The pending purges, in memory, with the last number that was given.
-ghost use Rattle.std.specs.Prelude.{◌≡◌, ℕ, ◌<◌, ◌≤◌, ◌==◌, nat_le, false, List, length};
-ghost use Rattle.std.specs.Prelude.{option_map, MatchOption, IfOk, OnOk, OnErr};
+//! The pending purges and the admissions, in memory, with the last number that was given.
+ghost use Rattle.std.specs.Prelude.{◌≡◌, ℕ, ◌<◌, ◌≤◌, ◌==◌, nat_le, not, false, List, length, map};
+ghost use Rattle.std.specs.Prelude.{option_map, find, filter, MatchOption, IfOk, OnOk, OnErr};
+ghost use Rattle.std.specs.List.{list_any};
 ghost use Rattle.purge_rules.specs.Purges.{PurgeList, AreNumbered, no_purges, pending_at};
-ghost use Rattle.purge_rules.specs.Purges.{with_purge, with_mark, without_purge};
-ghost use Rattle.purge_rules.specs.Places.{IsPlaceOf, IsAbsent, CameBy, given_to};
-ghost use Rattle.purge_rules.specs.Calls.{due, status_of};
+ghost use Rattle.purge_rules.specs.Purges.{admission_at, is_admitted, pending_count};
+ghost use Rattle.purge_rules.specs.Purges.{with_purge, with_admission, with_mark, with_done};
+ghost use Rattle.purge_rules.specs.Purges.{ended_at};
+ghost use Rattle.purge_rules.specs.Needed.{admission_in};
+ghost use Rattle.purge_rules.specs.Places.{IsPlaceOf, IsAbsent, CameBy, CameByAdmission, given_to};
+ghost use Rattle.purge_rules.specs.Places.{with_admissions, without_purge, with_ended};
 
-use crate::{MemberSet, Status};
+use crate::MemberSet;
 use std::alloc::{AllocError, Global};
 use std::marker::Model;
 use url_key::Key;
-use values_plain::Listed;
 
-/// The most purges that may be pending at a time.
+/// The most purges and admissions that may be pending at a time.
 pub const MOST_PENDING: usize = 1024;
 
-/// The greatest number that a purge may have, 2^32 - 1.
+/// The greatest number that a purge or an admission may have, 2^32 - 1.
 pub const LAST_NUMBER: u32 = 4294967295;
 
 /// A pending purge.
@@ -29,16 +32,30 @@ pub struct Purge {
     pub marked: MemberSet,
 }
 
-/// The last number that was given, and the pending purges.
+/// An admission of a joining node, which takes part in purges of greater numbers.
+#[derive(Clone, Copy, Debug, PartialEq, Eq)]
+pub struct Admission {
+    /// The node's id, 1 to 16.
+    pub member: u8,
+    /// Its number, 1 to 4294967295; also the TRANS-ID of its CLR.
+    pub number: u32,
+    /// Whether the node has acknowledged it. Until then it is pending.
+    pub is_done: bool,
+}
+
+/// The last number that was given, the pending purges, and all admissions.
 ///
-/// A contract sees both (`PurgeList`). The numbers of the pending purges ascend; they are at least
-/// 1 and at most the last number (`AreNumbered`).
+/// A contract sees these three (`PurgeList`). The numbers of the pending purges ascend, and so do
+/// those of the admissions. They are at least 1 and at most the last number, no number is of both,
+/// and no two admissions are of one node (`AreNumbered`).
 #[derive(Debug, Drop)]
 pub struct Purges {
     // the last number that was given, 0 if none was
     last: u32,
     // by number
     pending: Vec<Purge>,
+    // pending or done, by number
+    admissions: Vec<Admission>,
 }
 
 impl Model for Purges {
@@ -46,9 +63,17 @@ impl Model for Purges {
 
     ghost Value = { PurgeList };
 
-    ghost view = { λ p. record { last = p.last; pending = p.pending.items } };
+    ghost view = { λ p. record {
+      last = p.last;
+      pending = p.pending.items;
+      admissions = p.admissions.items;
+    } };
 
-    ghost invariant = { λ p. AreNumbered record { last = p.last; pending = p.pending.items } };
+    ghost invariant = { λ p. AreNumbered record {
+      last = p.last;
+      pending = p.pending.items;
+      admissions = p.admissions.items;
+    } };
 }
 
 impl Purge {
@@ -65,13 +90,14 @@ impl Purge {
 }
 
 impl Purges {
-    /// No purge was issued. Allocates nothing.
+    /// No number was given. Allocates nothing.
     pub fn new(alloc: Global) -> Purges
         ensures { result ≡ no_purges }
     {
         Purges {
             last: 0,
             pending: Vec::new(alloc),
+            admissions: Vec::new(alloc),
         }
     }
 
@@ -97,12 +123,13 @@ impl Purges {
         self.pending.is_empty()
     }
 
-    /// Whether 1,024 purges or more are pending.
+    /// Whether 1,024 numbers or more are pending, of purges and of admissions.
     pub fn is_full(&self) -> bool
-        ensures value { result ≡ nat_le 1024 (length self.now.pending) }
-        ensures room { result ≡ false → length self.now.pending < 1024 }
+        ensures value { result ≡ nat_le 1024 (pending_count self.now) }
+        ensures room { result ≡ false → pending_count self.now < 1024 }
     {
-        self.pending.len() >= MOST_PENDING
+        let pending = self.pending.len();
+        pending >= MOST_PENDING || count_pending(&self.admissions) >= MOST_PENDING - pending
     }
 
     /// The pending purges, by number.
@@ -111,6 +138,28 @@ impl Purges {
         ensures numbered { AreNumbered self.now }
     {
         self.pending.as_slice()
+    }
+
+    /// All admissions, pending or done, by number.
+    pub fn admissions(&self) -> &[Admission]
+        ensures value { result.now ≡ self.now.admissions }
+        ensures numbered { AreNumbered self.now }
+    {
+        self.admissions.as_slice()
+    }
+
+    /// The admission with this number, pending or done.
+    pub fn admission_at(&self, number: u32) -> Option<&Admission>
+        ensures { option_map (λ a. a.now) result ≡ admission_at self.now number }
+    {
+        admission_in(self.admissions(), number)
+    }
+
+    /// Whether the node with this id has an admission, pending or done.
+    pub fn is_admitted(&self, id: u8) -> bool
+        ensures { result ≡ is_admitted self.now id }
+    {
+        is_admitted_in(self.admissions(), id)
     }
 
     /// The index of the pending purge with this number, by binary search.
@@ -147,6 +196,7 @@ impl Purges {
         Ok(Purges {
             last: self.last,
             pending,
+            admissions: Vec::from_slice(alloc, self.admissions.as_slice())?,
         })
     }
 
@@ -167,6 +217,24 @@ impl Purges {
         Ok(())
     }
 
+    /// Adds an admission of the node, of an id of 1 to 16, under this number, which is above the
+    /// last one and becomes it. Before, the node has none. If an allocation fails, nothing changes.
+    pub fn admit(&mut self, number: u32, id: u8) -> Result<(), AllocError>
+        requires above { self.old.last < number }
+        requires id { (1 ≤ id) × (id ≤ 16) }
+        requires new { is_admitted self.old id ≡ false }
+        ensures ok { OnOk result (self.new ≡ with_admission self.old number id) }
+        ensures err { OnErr result (self.new ≡ self.old) }
+    {
+        self.admissions.push(Admission {
+            member: id,
+            number,
+            is_done: false,
+        })?;
+        self.last = number;
+        Ok(())
+    }
+
     /// Sets the last number, which does not fall. A store needs it to load purges of which the last
     /// are done. Allocates nothing.
     pub fn give(&mut self, given: u32)
@@ -176,6 +244,15 @@ impl Purges {
         self.last = given;
     }
 
+    /// Sets the admissions. A store needs it to load them, once it has added the purges and set the
+    /// last number. Allocates nothing.
+    pub fn restore(&mut self, admissions: Vec<Admission>)
+        requires { AreNumbered (with_admissions self.old admissions.items) }
+        ensures { self.new ≡ with_admissions self.old admissions.items }
+    {
+        self.admissions = admissions;
+    }
+
     /// Undoes the latest `add`; the last number was this one before it. Allocates nothing.
     pub fn take_back(&mut self, last: u32)
         requires { CameBy self.old last }
@@ -183,6 +260,16 @@ impl Purges {
             self.old ≡ with_purge before number key → last ≡ before.last → self.new ≡ before }
     {
         let _ = self.pending.pop();
+        self.last = last;
+    }
+
+    /// Undoes the latest `admit`; the last number was this one before it. Allocates nothing.
+    pub fn take_admission_back(&mut self, last: u32)
+        requires { CameByAdmission self.old last }
+        ensures { (before : PurgeList) (number id : ℕ) →
+            self.old ≡ with_admission before number id → last ≡ before.last → self.new ≡ before }
+    {
+        let _ = self.admissions.pop();
         self.last = last;
     }
 
@@ -198,9 +285,17 @@ impl Purges {
         }
     }
 
-    /// Takes out the pending purge with this number, so that it is done. If no such purge is
-    /// pending, nothing changes. Binary search; allocates nothing.
+    /// Ends this number: takes out its pending purge, or sets its admission to done. If neither has
+    /// the number, nothing changes. Binary search; allocates nothing.
     pub fn finish(&mut self, number: u32)
+        ensures { self.new ≡ with_done self.old number }
+    {
+        self.take_out(number);
+        self.end_admission(number);
+    }
+
+    /// Takes out the pending purge with this number, if there is one.
+    fn take_out(&mut self, number: u32)
         ensures { self.new ≡ without_purge self.old number }
     {
         if let Some(place) = self.place_of(number) {
@@ -208,29 +303,50 @@ impl Purges {
         }
     }
 
-    /// How far the purge with this number is, if it needs these members. Binary search.
-    pub fn status(&self, members: MemberSet, number: u32) -> Status
-        ensures { result ≡ status_of members self.now number }
+    /// Sets the admission with this number, if there is one, to done.
+    fn end_admission(&mut self, number: u32)
+        ensures { self.new ≡ with_ended self.old number }
     {
-        if number == 0 || self.last < number {
-            return Status::Unknown;
-        }
-        match self.find(number) {
-            Some(purge) => Status::Pending(members.missing_in(purge.marked).count()),
-            None => Status::Done,
+        end_in(&mut self.admissions, number);
+    }
+}
+
+/// The admission with this number.
+fn admission_in(admissions: &[Admission], number: u32) -> Option<&Admission>
+    ensures { option_map (λ a. a.now) result ≡ admission_in admissions.now number }
+{
+    admissions
+        .iter()
+        .find(|admission| admission.number == number)
+}
+
+/// Whether one of these admissions is of the node with this id.
+fn is_admitted_in(admissions: &[Admission], id: u8) -> bool
+    ensures { result ≡ list_any (λ a. a.member == id) admissions.now }
+{
+    admissions.iter().any(|admission| admission.member == id)
+}
+
+/// How many of these admissions are pending.
+fn count_pending(admissions: &[Admission]) -> usize
+    ensures { result ≡ length (filter (λ a. not a.is_done) admissions.now) }
+{
+    let mut count = 0;
+    for admission in admissions {
+        if !admission.is_done {
+            count += 1;
         }
     }
+    count
+}
 
-    /// The number of each pending purge with the id of each of these members that has not
-    /// acknowledged it, by number and then by id.
-    pub fn due(&self, alloc: Global, members: MemberSet) -> Result<Listed<(u32, u8)>, AllocError>
-        ensures { IfOk result (λ pairs. pairs ≡ due members self.now) }
-    {
-        let mut pairs = Vec::new(alloc);
-        for purge in &self.pending {
-            let missing = members.missing_in(purge.marked);
-            missing.pair_with(purge.number, &mut pairs)?;
+/// Sets those of these admissions that have this number to done.
+fn end_in(admissions: &mut Vec<Admission>, number: u32)
+    ensures { admissions.new.items ≡ ended_at number admissions.old.items }
+{
+    for place in 0..admissions.len() {
+        if admissions[place].number == number {
+            admissions[place].is_done = true;
         }
-        Ok(Listed::new(pairs))
     }
 }

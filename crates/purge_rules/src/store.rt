@@ -1,7 +1,8 @@
 //! The contract of a store of purges.
-ghost use Rattle.std.specs.Prelude.{◌≡◌, ◌≢◌, ◌⊎◌, ◌<◌, ◌≤◌, ℕ, ◌+◌, Bool, false, length, IsTrue};
+ghost use Rattle.std.specs.Prelude.{◌≡◌, ◌≢◌, ◌⊎◌, ◌<◌, ◌≤◌, ℕ, ◌+◌, Bool, false, IsTrue};
 ghost use Rattle.std.specs.Prelude.{IfOk, OnOk, Err};
-ghost use Rattle.purge_rules.specs.Purges.{PurgeList, with_purge, with_mark, without_purge};
+ghost use Rattle.purge_rules.specs.Purges.{PurgeList, is_admitted, pending_count, with_purge};
+ghost use Rattle.purge_rules.specs.Purges.{with_admission, with_mark, with_done};
 ghost use Rattle.purge_rules.specs.Store.{IsEither, Misses};
 ghost use Rattle.floor_rules.specs.Store.{HaveRisen};
 
@@ -9,11 +10,11 @@ use crate::{PurgeFault, Purges};
 use std::alloc::Global;
 use url_key::Key;
 
-/// A store that keeps the purges of a master over a restart.
+/// A store that keeps the purges and admissions of a master over a restart.
 ///
-/// `add`, `mark` and `finish` write. Once one of them has returned Ok, no crash undoes it. Whatever
-/// it returned on a usable store, a crash at its end leaves the purges from before it or from after
-/// it. What is said of commits and crashes holds if the disk is honest (`is_honest`).
+/// `add`, `admit`, `mark` and `finish` write. Once one of them has returned Ok, no crash undoes it.
+/// Whatever it returned on a usable store, a crash at its end leaves the purges from before it or
+/// from after it. What is said of commits and crashes holds if the disk is honest (`is_honest`).
 ///
 /// After `StoreFault` each call that writes returns `StoreFault` and each load fails, until the
 /// store is opened again. A store in a file does the same after `NoMemory` from a call that writes;
@@ -53,15 +54,15 @@ pub trait PurgeStore {
         ensures named { result ≢ Err PurgeFault.BadTable };
 
     /// Commits a pending purge of the key under this number, which is above the last one and
-    /// becomes it. The caller sees to it that fewer than 1,024 purges are pending before
-    /// (`Purges::is_full`): a file with more than 1,024 does not open.
+    /// becomes it. The caller sees to it that fewer than 1,024 purges and admissions are pending
+    /// before (`Purges::is_full`): a file with more than 1,024 does not open.
     ///
     /// Errors: `StoreFault` if the store failed, in this call or earlier; `NoMemory` if an
     /// allocation failed. A store that failed earlier returns only `StoreFault`, and an open after
     /// a crash can find nothing that it could not find before.
     fn add(&mut self, alloc: Global, number: u32, key: &Key) -> Result<(), PurgeFault>
         requires above { is_honest self.old → (content self.old).last < number }
-        requires room { is_honest self.old → length (content self.old).pending < 1024 }
+        requires room { is_honest self.old → pending_count (content self.old) < 1024 }
         ensures honest { is_honest self.new → is_honest self.old }
         ensures committed { OnOk result (is_honest self.new →
             content self.new ≡ with_purge (content self.old) number key.now) }
@@ -70,6 +71,36 @@ pub trait PurgeStore {
         ensures crash { is_honest self.new → IsTrue (is_usable self.old) → (found : PurgeList) →
             may_find self.new found → IsEither (content self.old)
             (with_purge (content self.old) number key.now) found }
+        ensures refused { is_usable self.old ≡ false → result ≡ Err PurgeFault.StoreFault }
+        ensures left { is_usable self.old ≡ false → (found : PurgeList) → may_find self.new found →
+            may_find self.old found }
+        ensures usable { OnOk result (IsTrue (is_usable self.new)) }
+        ensures spent { result ≡ Err PurgeFault.StoreFault → is_usable self.new ≡ false }
+        ensures counted { (result ≡ Err PurgeFault.StoreFault)
+            ⊎ (failed self.new ≡ failed self.old) }
+        ensures once { failed self.new ≤ failed self.old + 1 }
+        ensures fault { result ≡ Err PurgeFault.StoreFault →
+            HaveRisen (failed self.old) (failed self.new) }
+        ensures named { result ≢ Err PurgeFault.BadTable };
+
+    /// Commits an admission of the member, of an id of 1 to 16, under this number, which is above
+    /// the last one and becomes it: both in one transaction. Before, the member has no admission.
+    /// The caller sees to it that fewer than 1,024 purges and admissions are pending, as for `add`.
+    ///
+    /// Errors as for `add`.
+    fn admit(&mut self, alloc: Global, number: u32, member: u8) -> Result<(), PurgeFault>
+        requires id { (1 ≤ member) × (member ≤ 16) }
+        requires above { is_honest self.old → (content self.old).last < number }
+        requires room { is_honest self.old → pending_count (content self.old) < 1024 }
+        requires new { is_honest self.old → is_admitted (content self.old) member ≡ false }
+        ensures honest { is_honest self.new → is_honest self.old }
+        ensures committed { OnOk result (is_honest self.new →
+            content self.new ≡ with_admission (content self.old) number member) }
+        ensures durable { OnOk result (is_honest self.new → (found : PurgeList) →
+            may_find self.new found → found ≡ with_admission (content self.old) number member) }
+        ensures crash { is_honest self.new → IsTrue (is_usable self.old) → (found : PurgeList) →
+            may_find self.new found → IsEither (content self.old)
+            (with_admission (content self.old) number member) found }
         ensures refused { is_usable self.old ≡ false → result ≡ Err PurgeFault.StoreFault }
         ensures left { is_usable self.old ≡ false → (found : PurgeList) → may_find self.new found →
             may_find self.old found }
@@ -109,19 +140,19 @@ pub trait PurgeStore {
             HaveRisen (failed self.old) (failed self.new) }
         ensures named { result ≢ Err PurgeFault.BadTable };
 
-    /// Commits that the purge with this number is pending no longer. If no such purge is pending,
-    /// nothing changes.
+    /// Commits that this number is done: its purge is pending no longer, or its admission is done.
+    /// If nothing is pending under it, nothing changes.
     ///
     /// Errors as for `add`.
     fn finish(&mut self, alloc: Global, number: u32) -> Result<(), PurgeFault>
         ensures honest { is_honest self.new → is_honest self.old }
         ensures committed { OnOk result (is_honest self.new →
-            content self.new ≡ without_purge (content self.old) number) }
+            content self.new ≡ with_done (content self.old) number) }
         ensures durable { OnOk result (is_honest self.new → (found : PurgeList) →
-            may_find self.new found → found ≡ without_purge (content self.old) number) }
+            may_find self.new found → found ≡ with_done (content self.old) number) }
         ensures crash { is_honest self.new → IsTrue (is_usable self.old) → (found : PurgeList) →
             may_find self.new found → IsEither (content self.old)
-            (without_purge (content self.old) number) found }
+            (with_done (content self.old) number) found }
         ensures refused { is_usable self.old ≡ false → result ≡ Err PurgeFault.StoreFault }
         ensures left { is_usable self.old ≡ false → (found : PurgeList) → may_find self.new found →
             may_find self.old found }

@@ -45,30 +45,32 @@ pub all_matched : (f : List Row → Output) (given : Row) (rows : List Row) → 
 all_matched f given [] = refl
 all_matched f given (r ∷ rows) = ap (λ more. f (given ∷ r ∷ []) ∷ more) (all_matched f given rows)
 
--- ---- what stays
+-- ---- a query whose text is plain in the schema at hand
 
-module _ (schema : Schema) (text : List ℕ) (plain : IsPlain (understood schema text)) (old new : State) (has : HasCleanDisk old → old.now.schema ≡ schema)
-    (back : HasCleanDisk new → HasCleanDisk old) where
-  keeps : (clean : HasCleanDisk new) (rows : List Row) → Shown text [] old new rows → IsUnchanged old new
-  unfolding Shown
-  keeps clean rows h =
-      let none = (subst IsPlain h.1.is (subst (λ s. IsPlain (understood s text)) (sym (has (back clean))) plain)).0 in
-      (subst (ShowsRows old new text h.0 (timed [] h.0.formats h.1.now) rows) none h.2).3
+module _ (text : List ℕ) (old new : State) (plain : HasCleanDisk old → IsPlain (understood old.now.schema text)) (back : HasCleanDisk new → HasCleanDisk old)
+  where
+    keeps : (clean : HasCleanDisk new) (rows : List Row) → Shown text [] old new rows → IsUnchanged old new
+    unfolding Shown
+    keeps clean rows h =
+        let none = (subst IsPlain h.1.is (plain (back clean))).0 in
+        (subst (ShowsRows old new text h.0 (timed [] h.0.formats h.1.now) rows) none h.2).3
 
-  pub query_keeps : (r : Result (Vec Row Global) Error) → (HasCleanDisk new → IfOk r (λ rows. Shown text [] old new rows.items)) →
-      OnOk r (HasCleanDisk new → IsUnchanged old new)
-  query_keeps (Err e) h = tt
-  query_keeps (Ok rows) h = λ clean. keeps clean rows.items (h clean)
+    pub asks_same : (r : Result (Vec Row Global) Error) → (HasCleanDisk new → IfOk r (λ rows. Shown text [] old new rows.items)) →
+        OnOk r (HasCleanDisk new → IsUnchanged old new)
+    asks_same (Err e) h = tt
+    asks_same (Ok rows) h = λ clean. keeps clean rows.items (h clean)
 
-  pub query_survives : Survives old new (CommitsShowing text [] old) → Survives old new (λ _. ⊥)
-  query_survives = survives_weaker old new _ _
-      (λ clean db. never_commits text [] old db (subst (λ s. IsPlain (understood s text)) (sym (has (back clean))) plain))
+    pub asks_only : Survives old new (CommitsShowing text [] old) → Survives old new (λ _. ⊥)
+    asks_only = survives_weaker old new _ _ (λ clean db. never_commits text [] old db (plain (back clean)))
 
-  pub query_shows : (Q : List Row → Type 0) → (old.now.schema ≡ schema → (rows : List Row) → Shown text [] old new rows → Q rows) →
-      (r : Result (Vec Row Global) Error)
-      → (HasCleanDisk new → IfOk r (λ rows. Shown text [] old new rows.items)) → IfOk r (λ rows. HasCleanDisk new → Q rows.items)
-  query_shows Q f (Err e) h = tt
-  query_shows Q f (Ok rows) h = λ clean. f (has (back clean)) rows.items (h clean)
+    pub asks_rows : (Q : List Row → Type 0) → (HasCleanDisk old → (rows : List Row) → Shown text [] old new rows → Q rows) → (r : Result (Vec Row Global) Error)
+        → (HasCleanDisk new → IfOk r (λ rows. Shown text [] old new rows.items)) → IfOk r (λ rows. HasCleanDisk new → Q rows.items)
+    asks_rows Q f (Err e) h = tt
+    asks_rows Q f (Ok rows) h = λ clean. f (back clean) rows.items (h clean)
+
+-- a text that is plain in a schema is so in a database that has it
+pub plain_in : (text : List ℕ) (s : State) (schema : Schema) → s.now.schema ≡ schema → IsPlain (understood schema text) → IsPlain (understood s.now.schema text)
+plain_in text s schema has plain = subst (λ x. IsPlain (understood x text)) (sym has) plain
 
 -- ---- the rows of `form`
 

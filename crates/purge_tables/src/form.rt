@@ -77,11 +77,3 @@ pub fn is_version(rows: &[Row], wanted: u32) -> bool
         _ => false,
     }
 }
-
-/// Whether these rows, as a query shows them, are one row with the version 1.
-pub fn is_version_one(rows: &[Row]) -> bool
-    ensures yes { IsTrue result → rows.now ≡ (Int (pos 1) ∷ []) ∷ [] }
-    ensures no { result ≡ false → rows.now ≢ (Int (pos 1) ∷ []) ∷ [] }
-{
-    is_version(rows, 1)
-}

@@ -26,6 +26,17 @@ pub fn is_place(places: &Items<usize>, wanted: usize) -> bool
     places.as_slice() == [wanted].as_slice()
 }
 
+/// Whether there is one UNIQUE, of this column alone.
+pub fn is_unique_place(uniques: &Items<Items<usize>>, wanted: usize) -> bool
+    ensures yes { IsTrue result → uniques.now ≡ (wanted ∷ []) ∷ [] }
+    ensures no { result ≡ false → ¬ (uniques.now ≡ (wanted ∷ []) ∷ []) }
+{
+    let [places] = uniques.as_slice() else {
+        return false;
+    };
+    is_place(places, wanted)
+}
+
 /// Whether this is such a column of a STRICT table, with no default and in the order of plain
 /// octets.
 pub fn is_column(column: &Column, name: &[u8], kind: Kind, not_null: bool) -> bool
@@ -92,10 +103,16 @@ pub fn has_rowid_key(table: &Table) -> bool
     ensures no { result ≡ false → ¬ ((table.now.key ≡ Some 0) × (table.now.primary ≡ 0 ∷ [])
         × (table.now.uniques ≡ []) × (table.now.orders ≡ [])) }
 {
-    is_rowid(table.key)
-        && is_place(&table.primary, 0)
-        && table.uniques.is_empty()
-        && table.orders.is_empty()
+    has_rowid(table) && table.uniques.is_empty() && table.orders.is_empty()
+}
+
+/// Whether the first column is the rowid and the primary key.
+pub fn has_rowid(table: &Table) -> bool
+    ensures yes { IsTrue result → (table.now.key ≡ Some 0) × (table.now.primary ≡ 0 ∷ []) }
+    ensures no { result ≡ false → ¬ ((table.now.key ≡ Some 0)
+        × (table.now.primary ≡ 0 ∷ [])) }
+{
+    is_rowid(table.key) && is_place(&table.primary, 0)
 }
 
 /// Whether the first column is the rowid (INTEGER PRIMARY KEY).

@@ -24,4 +24,5 @@ pub next_field : (text : Option (List ℕ)) (fields others : List Field) (field 
     → directives_in text ++ flat_map directives_of_field (map field_text others) ≡ flat_map directives_of_field (map field_text fields)
 next_field text fields others field first is =
     rw (first, is)
-    (ap (λ (ds : List DirectiveText). ds ++ flat_map directives_of_field (map field_text others)) (directives_of_text (bytes_eq field.name (codes "cache-control")) field.value.bytes))
+    (ap (λ (ds : List DirectiveText). ds ++ flat_map directives_of_field (map field_text others))
+    (directives_of_text (bytes_eq field.name (codes "cache-control")) field.value.bytes))

@@ -1,11 +1,12 @@
 -- The directives of a response's `cache-control` fields (RFC 9111, section 5.2).
-use Rattle.std.specs.Prelude.{ℕ, ◌-◌, Bool, ◌&&◌, ◌==◌, nat_le, min, bytes_eq, List, [], length, slice_index, slice_range, codes, map, if◌then◌else◌}
+use Rattle.std.specs.Prelude.{ℕ, ◌-◌, Bool, not, ◌&&◌, ◌==◌, nat_le, min, bytes_eq, List, [], length, slice_index, slice_range, codes, map, if◌then◌else◌}
 use Rattle.std.specs.List.{list_all, before_first, after_first, flat_map}
 use Rattle.std.specs.Char.{is_ascii_digit, to_ascii_lowercase}
 use Rattle.std.specs.Str.Parse.{digits_value}
 use Rattle.http_messages.specs.Field.{FieldText}
 use Rattle.http_messages.specs.Answer.{AnswerText}
 use Rattle.reuse_rules.specs.declared.directive.Directive.{Directive}
+use Rattle.http_lists.specs.Cut.{is_closed}
 use Rattle.http_lists.specs.Members.{members, double_quote}
 use Rattle.http_lists.specs.Blanks.{trim}
 
@@ -38,6 +39,11 @@ directives_of_field f = if bytes_eq f.name (codes "cache-control") then map dire
 -- the directives of all `cache-control` fields, in order
 abbrev pub directives : AnswerText → List DirectiveText
 directives a = flat_map directives_of_field a.fields
+
+-- The field is a `cache-control` field with a quoted string that nothing closes (RFC 9110, section
+-- 5.6.4). A directive that stands behind the quote counts for nothing.
+abbrev pub is_left_open : FieldText → Bool
+is_left_open f = bytes_eq f.name (codes "cache-control") && not (is_closed f.value)
 
 -- the directive has this name, ignoring case
 abbrev pub is_called : List ℕ → DirectiveText → Bool

@@ -126,7 +126,8 @@ impl<'a> Directives<'a> {
 /// The value of the field if it is a `cache-control` field.
 fn text_of(field: &Field) -> Option<&[u8]>
     ensures { option_copied result
-        ≡ (if bytes_eq field.now.name (codes "cache-control") then Some field.now.value.bytes else None) }
+        ≡ (if bytes_eq field.now.name (codes "cache-control")
+        then Some field.now.value.bytes else None) }
 {
     if field.name.as_str() == "cache-control" {
         Some(field.value.as_bytes())

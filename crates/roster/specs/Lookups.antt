@@ -9,6 +9,7 @@ use Rattle.values_tables.specs.declared.plain.Cache.{Cache}
 use Rattle.values_tables.specs.declared.plain.Member.{Member}
 use Rattle.values_tables.specs.declared.plain.Origin.{Origin}
 use Rattle.values_tables.specs.declared.plain.Tables.{Tables}
+use Rattle.values_tables.specs.Ranges.{is_founding as is_founding_member}
 use Rattle.values_tables.specs.Roles.{is_sibling, is_parent}
 
 -- the same IPv4 address and the same port
@@ -22,6 +23,15 @@ member_of t id = find (λ m. m.cache.id == id) t.members
 -- a member has this id
 abbrev pub is_member : Tables → ℕ → Bool
 is_member t id = is_some (member_of t id)
+
+-- the entry is of a founding member; false if there is no entry
+abbrev pub is_founding_in : Option Member → Bool
+is_founding_in None = false
+is_founding_in (Some m) = is_founding_member m
+
+-- the member with this id is founding
+abbrev pub is_founding : Tables → ℕ → Bool
+is_founding t id = is_founding_in (member_of t id)
 
 -- the peers of an entry; none if there is no entry
 abbrev pub peers_in : Option Member → List Peer

@@ -25,6 +25,7 @@ fn copy_of_member(alloc: Global, member: &Member) -> Result<Member, AllocError>
 {
     Ok(Member {
         cache: copy_of_cache(alloc, &member.cache)?,
+        joins: member.joins,
         peers: Listed::new(Vec::from_slice(alloc, member.peers.as_slice())?),
     })
 }

@@ -13,7 +13,7 @@ use values_tables::TablesFault;
 pub enum RosterFault {
     /// The text is no TOML document.
     BadToml,
-    /// A key is missing, unknown, of another type or out of its range, or there is no node.
+    /// A key is missing, unknown, of another type or out of its range, or no node is founding.
     BadField,
     /// More than 16 nodes, 8 foreign caches, 23 peers of a node or 256 origins.
     TooMany,

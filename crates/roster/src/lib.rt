@@ -12,7 +12,7 @@
 //! A contract sees a `Roster` as its `Tables`. The invariant `IsRoster` holds of each:
 //!
 //! - at most 16 members, 8 foreign caches, 23 peers of a member and 256 origins, and at least one
-//!   member;
+//!   founding member;
 //! - no two equal ids, names, UDP addresses (ICP, HTCP and the master's together), HTTP addresses,
 //!   or origins of one host and port;
 //! - each peer is another cache of the roster, and no member names one twice;

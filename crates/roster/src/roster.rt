@@ -8,6 +8,8 @@ ghost use Rattle.roster.specs.Lookups.{is_master as is_master_at, is_own as is_o
 ghost use Rattle.roster.specs.Lookups.{peers_of, peers_in as peers_of_entry, origin_at};
 ghost use Rattle.roster.specs.Lookups.{member_at as member_by_address};
 ghost use Rattle.roster.specs.Lookups.{names_sibling as calls_sibling};
+ghost use Rattle.roster.specs.Lookups.{is_founding as is_founding_at};
+ghost use Rattle.roster.specs.Lookups.{is_founding_in as is_founding_entry};
 ghost use Rattle.roster.specs.Lookups.{address_by as address_for, is_origin_of as is_origin_for};
 ghost use Rattle.values_tables.specs.Roles.{is_sibling as is_sibling_role};
 ghost use Rattle.std.specs.List.{find, list_any};
@@ -76,6 +78,15 @@ impl Roster {
         ensures { result ≡ is_member_of self.now id }
     {
         self.member(id).is_some()
+    }
+
+    /// Whether the member with this id is founding. Else it is joining: it takes part once the
+    /// master of purges has admitted it.
+    pub fn is_founding(&self, id: u8) -> bool
+        requires { is_member_of self.now id ≡ true }
+        ensures { result ≡ is_founding_at self.now id }
+    {
+        is_founding_in(self.members(), id)
     }
 
     /// The peers of the member with this id, at most 23, in the order in which it asks them.
@@ -204,6 +215,16 @@ pub(crate) fn member_of(members: &[Member], id: u8) -> Option<&Member>
     ensures { option_map (λ m. m.now) result ≡ find (λ m. m.cache.id == id) members.now }
 {
     members.iter().find(|member| member.cache.id == id)
+}
+
+/// Whether the member with this id is founding; `false` if there is no such member.
+fn is_founding_in(members: &[Member], id: u8) -> bool
+    ensures { result ≡ is_founding_entry (find (λ m. m.cache.id == id) members.now) }
+{
+    match member_of(members, id) {
+        Some(member) => !member.joins,
+        None => false,
+    }
 }
 
 /// The peers of the member with this id; none if there is no such member.

@@ -37,7 +37,7 @@ module _ (roster : Tables) (old : Held) (taken : Posts) (id : ℕ) (before : Hel
         ∙ ap (λ l. record { posts = posts_of now.posts; master = master_of l; network = n }) (sym ledger)
 
     is_board : (n : Network) → Holds roster now.network n → IsBoard roster now n
-    is_board n holds = record { nodes = nodes; members = ap (λ l. l.members) ledger ∙ board.members; network = holds }
+    is_board n holds = record { nodes = nodes; counted = ap (λ l. l.nodes) ledger ∙ board.counted; network = holds }
 
     pub has_opened : (state : NodeState (Unit {0})) → Holds roster now.network (opened_network sent id (length state.pending) (standing_of after)) →
         IsOpened roster id (standing_of before) state (standing_of after) →

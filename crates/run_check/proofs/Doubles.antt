@@ -329,7 +329,8 @@ module _ (fall : Option ℕ) where
               rises (Some p) on_later early_later (took_entry last rank p above tracks x.rest x.note took is up),
             )),
         (λ d double.
-            let (not_later, from) = double_parts fall (nat_le 2 (count_of (rank_by (Some p)) (ranks_of tracks))) p d (ap (double_of fall (ranks_of tracks)) (sym is) ∙ double) in
+            let (not_later, from) =
+            double_parts fall (nat_le 2 (count_of (rank_by (Some p)) (ranks_of tracks))) p d (ap (double_of fall (ranks_of tracks)) (sym is) ∙ double) in
             let all = least_up d p fall last from not_later tracks on (subst (λ n. AreAtLeast n tracks) rank_is below) in
             let before = entry_place x.note p is in (
               omega (not_later, before, arith),

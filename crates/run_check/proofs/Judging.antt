@@ -45,7 +45,8 @@ pub opening_judged : (roster : Tables) (b : Board) (id : ℕ) (state : NodeState
     (Fine (record { posts = with_standing b.posts id after; master = b.master; network = opened_network b.network id (length state.pending) after }))
 opening_judged roster b id state after (inl (can, is)) =
     let test : (nat_eq (length state.pending) 0 && not (is_astray after)) ≡ nat_eq (length state.pending) 0 =
-    ap (λ t. nat_eq (length state.pending) 0 && not (is_astray t)) is ∙ ap (λ c. nat_eq (length state.pending) 0 && not c) (stands (standing_at b.posts id) state)
+    ap (λ t. nat_eq (length state.pending) 0 && not (is_astray t)) is
+    ∙ ap (λ c. nat_eq (length state.pending) 0 && not c) (stands (standing_at b.posts id) state)
     ∙ and_true (nat_eq (length state.pending) 0) in
     inl (
       can,

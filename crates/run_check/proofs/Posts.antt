@@ -28,6 +28,7 @@ pub record IsAt (posts : List Post) (id at : ℕ) (p : Post) : Type 0 where
   pub standing : standing_at posts id ≡ p.standing
   pub with_it : (s : Standing) → with_standing posts id s ≡ set posts at (record { id = id; standing = s })
 
+-- the first post is the node's, or the node is found in the others, one index earlier
 pub is_at : (posts : List Post) (id at : ℕ) (p : Post) → place_of id posts ≡ Some at → slice_get posts at ≡ Some p → IsAt posts id at p
 is_at [] id at p place got = absurd (none-some at place)
 is_at (q ∷ posts) id at p place got =

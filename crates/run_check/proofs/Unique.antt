@@ -1,5 +1,5 @@
 -- There is one judgement on a note: each way to it excludes the others, case by case.
-use Rattle.std.proofs.Common.{◌≡◌, ◌⊎◌, ℕ, Bool, List, Result, Ok, Err, sym, ◌∙◌, ap, inl, inr}
+use Rattle.std.proofs.Common.{◌≡◌, ◌⊎◌, ℕ, Bool, Result, Ok, Err, sym, ◌∙◌, ap, inl, inr}
 use Rattle.floor_rules.specs.Floors.{FloorTable}
 use Rattle.values_tables.specs.declared.plain.Tables.{Tables}
 use Rattle.node_rules.specs.declared.state.NodeState.{NodeState}
@@ -11,7 +11,8 @@ use Rattle.node_book.specs.declared.book.NodeEntry.{NodeEntry}
 use Rattle.purge_rules.specs.declared.calls.MasterAnswer.{MasterAnswer}
 use Rattle.purge_rules.specs.declared.fault.MasterFault.{MasterFault}
 use Rattle.purge_rules.specs.declared.fault.MasterFault.TheVariants as master_fault
-use Rattle.purge_rules.specs.Members.{members_of}
+use Rattle.purge_rules.specs.declared.nodes.Nodes.{Nodes}
+use Rattle.purge_rules.specs.Needed.{nodes_of}
 use Rattle.purge_rules.specs.Calls.{MasterState, Called}
 use Rattle.purge_master.specs.declared.book.MasterEntry.{MasterEntry}
 use Rattle.run_rules.specs.declared.verdict.Cause.{Cause}
@@ -79,24 +80,25 @@ entry_once roster b id e is_closed kept j k (inr (unheard, is)) (inr (still, its
 
 -- An entry of the master
 
-module _ (members : List ℕ) (m : MasterState) (e : MasterEntry) (is_closed : Bool) (a b : MasterState) where
+module _ (nodes : Nodes) (m : MasterState) (e : MasterEntry) (is_closed : Bool) (a b : MasterState) where
   by_call : (answer : Result MasterAnswer MasterFault) (c : Called) → c ≡ record { state = a; outcome = answer } →
       c ≡ record { state = b; outcome = answer } → a ≡ b
   by_call answer c is its = ap (λ (d : Called). d.state) (sym is ∙ its)
 
-  calls_once : (answer : Result MasterAnswer MasterFault) → CallsBy members m e is_closed answer a → CallsBy members m e is_closed answer b → a ≡ b
+  calls_once : (answer : Result MasterAnswer MasterFault) → CallsBy nodes m e is_closed answer a → CallsBy nodes m e is_closed answer b → a ≡ b
   calls_once (Err master_fault.NoMemory) is its = is.2 ∙ sym its.2
   calls_once (Err master_fault.StoreFault) is its = is.2 ∙ sym its.2
   calls_once (Err master_fault.Closed) is its = by_call (Err master_fault.Closed) _ is its
   calls_once (Err master_fault.ShiftFull) is its = by_call (Err master_fault.ShiftFull) _ is its
   calls_once (Err master_fault.NumbersSpent) is its = by_call (Err master_fault.NumbersSpent) _ is its
+  calls_once (Err master_fault.NotJoining) is its = by_call (Err master_fault.NotJoining) _ is its
   calls_once (Err master_fault.TooManyPending) is its = by_call (Err master_fault.TooManyPending) _ is its
   calls_once (Ok answer) is its = by_call (Ok answer) _ is its
 
 call_once : (roster : Tables) (b : Board) (e : MasterEntry) (is_closed : Bool) (j k : Judgement) →
     JudgesCall roster b e is_closed j → JudgesCall roster b e is_closed k → j ≡ k
 call_once roster b e is_closed j k (inl (sent, key, next, calls, is)) (inl (still, its_key, other, also, its)) =
-    is ∙ ap (λ m. Fine (after_call roster b e m)) (calls_once (members_of roster) b.master e is_closed next other e.answer calls also) ∙ sym its
+    is ∙ ap (λ m. Fine (after_call roster b e m)) (calls_once (nodes_of roster) b.master e is_closed next other e.answer calls also) ∙ sym its
 call_once roster b e is_closed j k (inl (sent, key, next, calls, is)) (inr (inl (still, none, its))) = absurd (none next calls)
 call_once roster b e is_closed j k (inl (sent, key, next, calls, is)) (inr (inr (unsent, its))) = absurd (unsent sent)
 call_once roster b e is_closed j k (inr (inl (sent, none, is))) (inl (still, key, next, calls, its)) = absurd (none next calls)

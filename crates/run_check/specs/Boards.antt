@@ -1,7 +1,7 @@
 -- How the checker holds the state of a run, and what a note makes of it.
 use Rattle.std.specs.Prelude.{◌≡◌, ℕ, All, not, ◌&&◌, ◌==◌, List, [], ◌∷◌, map, Option, Some, None, if◌then◌else◌}
 use Rattle.values_tables.specs.declared.plain.Tables.{Tables}
-use Rattle.purge_rules.specs.Members.{members_of}
+use Rattle.purge_rules.specs.Needed.{nodes_of}
 use Rattle.run_rules.specs.declared.verdict.Cause.{Cause}
 use Rattle.run_rules.specs.Notes.{Note, Closes}
 use Rattle.run_rules.specs.Sent.{Network, without_waiting}
@@ -41,10 +41,10 @@ board_of b sent = record { posts = posts_of b.posts; master = master_of b.ledger
 abbrev pub opened_network : Network → ℕ → ℕ → Standing → Network
 opened_network sent id pending after = if (pending == 0) && not (is_astray after) then without_waiting sent id else sent
 
--- the invariant: the nodes and the members are right, and this network is held
+-- the invariant: the nodes are right, also those that the master counts, and this network is held
 pub record IsBoard (roster : Tables) (b : Held) (sent : Network) : Type 0 where
   pub nodes : AreMemberNodes roster b.posts
-  pub members : b.ledger.members ≡ members_of roster
+  pub counted : b.ledger.nodes ≡ nodes_of roster
   pub network : Holds roster b.network sent
 
 -- a record that closes changes nothing, even if it has a flaw

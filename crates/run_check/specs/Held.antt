@@ -1,5 +1,5 @@
 -- How the checker holds nodes and the master, and what its calls make of them.
-use Rattle.std.specs.Prelude.{◌≡◌, ◌⊎◌, ℕ, Bool, true, false, ◌||◌, List, [], Result, Ok, Err}
+use Rattle.std.specs.Prelude.{◌≡◌, ◌⊎◌, ℕ, Bool, true, false, ◌||◌, [], Result, Ok, Err}
 use Rattle.floor_rules.specs.Floors.{FloorTable}
 use Rattle.values_tables.specs.declared.plain.Tables.{Tables}
 use Rattle.roster.specs.Lookups.{is_member}
@@ -9,6 +9,7 @@ use Rattle.node_core.specs.View.{NodeText}
 use Rattle.purge_rules.specs.declared.calls.MasterCall.{MasterCall}
 use Rattle.purge_rules.specs.declared.calls.MasterAnswer.{MasterAnswer}
 use Rattle.purge_rules.specs.declared.fault.MasterFault.{MasterFault}
+use Rattle.purge_rules.specs.declared.nodes.Nodes.{Nodes}
 use Rattle.purge_rules.specs.Calls.{MasterState, Called, is_written, is_due, closing}
 use Rattle.purge_master.specs.declared.book.MasterEntry.{MasterEntry}
 use Rattle.run_rules.specs.declared.verdict.Cause.{Cause}
@@ -82,19 +83,19 @@ IsAnswered c answer next true = c ≡ record { state = next; outcome = answer }
 IsAnswered c answer next false = c.outcome ≡ answer → ⊥
 
 -- whether the call may lack memory; if it does, this is the master's state after it
-abbrev pub IsWanting : List ℕ → MasterState → MasterCall → Bool → MasterState → Bool → Type 0
-IsWanting members m c is_closed next true =
-    (m.closed ≡ false) × ((is_written members m.purges c || is_due c) ≡ true)
-    × (next ≡ left_wanting m (is_written members m.purges c) is_closed)
-IsWanting members m c is_closed next false = (m.closed ≡ false) × ((is_written members m.purges c || is_due c) ≡ true) →
+abbrev pub IsWanting : Nodes → MasterState → MasterCall → Bool → MasterState → Bool → Type 0
+IsWanting nodes m c is_closed next true =
+    (m.closed ≡ false) × ((is_written nodes m.purges c || is_due c) ≡ true)
+    × (next ≡ left_wanting m (is_written nodes m.purges c) is_closed)
+IsWanting nodes m c is_closed next false = (m.closed ≡ false) × ((is_written nodes m.purges c || is_due c) ≡ true) →
     ⊥
 
 -- whether the store may fail at the call; if it does, this is the master's state after it
-abbrev pub IsFailing : List ℕ → MasterState → MasterCall → MasterState → Bool → Type 0
-IsFailing members m c next true = (m.closed ≡ false) × (is_written members m.purges c ≡ true) × (next ≡ closing m)
-IsFailing members m c next false = (m.closed ≡ false) × (is_written members m.purges c ≡ true) → ⊥
+abbrev pub IsFailing : Nodes → MasterState → MasterCall → MasterState → Bool → Type 0
+IsFailing nodes m c next true = (m.closed ≡ false) × (is_written nodes m.purges c ≡ true) × (next ≡ closing m)
+IsFailing nodes m c next false = (m.closed ≡ false) × (is_written nodes m.purges c ≡ true) → ⊥
 
 -- whether the entry is right; if it is, this is the master's state after it
-abbrev pub IsTaken : List ℕ → MasterState → MasterEntry → Bool → MasterState → Bool → Type 0
-IsTaken members m e is_closed next true = CallsBy members m e is_closed e.answer next
-IsTaken members m e is_closed next false = (later : MasterState) → CallsBy members m e is_closed e.answer later → ⊥
+abbrev pub IsTaken : Nodes → MasterState → MasterEntry → Bool → MasterState → Bool → Type 0
+IsTaken nodes m e is_closed next true = CallsBy nodes m e is_closed e.answer next
+IsTaken nodes m e is_closed next false = (later : MasterState) → CallsBy nodes m e is_closed e.answer later → ⊥

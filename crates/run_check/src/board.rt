@@ -280,8 +280,9 @@ impl<'a> Board<'a> {
         if !self.ledger.take(alloc, entry, is_closed)? {
             return Ok(Some(Cause::OtherReply));
         }
+        let purges = self.ledger.purges();
         self.network
-            .clear(alloc, roster, &entry.call, &entry.answer)?;
+            .clear(alloc, roster, purges, &entry.call, &entry.answer)?;
         Ok(None)
     }
 

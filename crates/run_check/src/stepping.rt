@@ -1,7 +1,8 @@
 //! An entry of a node is replayed on a node of the checker.
 ghost use Rattle.std.specs.Prelude.{◌≡◌, ◌↔◌, ◌≤◌, IsTrue, IfOk, Err};
 ghost use Rattle.node_rules.specs.declared.reply.StepFault.TheVariants as fault;
-ghost use Rattle.node_rules.specs.Relation.{purge_in as purge_of_event};
+ghost use Rattle.node_rules.specs.Relation.{raise_in as raise_of_event};
+ghost use Rattle.node_rules.specs.Raises.{number_of, least_by};
 ghost use Rattle.node_rules.specs.State.{setting};
 ghost use Rattle.run_rules.specs.Board.{Shut};
 ghost use Rattle.run_rules.specs.Judging.{StepsSo, StepsBy, OpenStepsBy};
@@ -9,18 +10,17 @@ ghost use Rattle.run_rules.specs.Judging.{wanting, failing, shut_by, left_by};
 ghost use Rattle.run_check.specs.Held.{closed_state, standing_of, stepped_of};
 ghost use Rattle.run_check.specs.Held.{IsSound, IsMemberNode, AreSound};
 
-use crate::purging::{purge_in, stored};
+use crate::purging::{raise_in, stored};
 use crate::reaching::reaches;
 use crate::standing::{ClosedNode, Standing};
 use floor_rules::{Floors, MemoryFloors};
 use node_book::NodeEntry;
 use node_copies::{copy_of_event, same_outcome};
 use node_core::Node;
-use node_rules::{Event, Reply, StepFault};
+use node_rules::{Event, Raise, Reply, StepFault};
 use roster::Roster;
 use run_rules::Cause;
 use std::alloc::{AllocError, Global};
-use url_key::Key;
 
 /// Whether a step lacked memory.
 fn has_wanted_memory(outcome: &Result<Reply<()>, StepFault>) -> bool
@@ -55,32 +55,42 @@ fn play(
     }
 }
 
-/// A node closes at a purge of this key and number: where the base was to rise, it has dropped the
-/// copies below the new base. `kept` are the floors with which it next opens.
+/// The number below which a node drops its copies before it commits this raise.
+fn least_of(node: &Node<(), MemoryFloors>, raise: &Raise) -> u32
+    ensures { result ≡ least_by raise.now node.now.state.floors }
+{
+    match raise {
+        Raise::Floor { key, number } => node.new_base(key, *number),
+        Raise::Base { number } => *number,
+    }
+}
+
+/// A node closes at this raise: it has dropped the copies that were to go before the commit. `kept`
+/// are the floors with which it next opens.
 fn closed_by(
     alloc: Global,
     roster: &Roster,
     id: u8,
     mut node: Node<(), MemoryFloors>,
-    purge: &(Key, u32),
+    raise: &Raise,
     kept: &Floors,
 ) -> Result<Standing, AllocError>
-    requires { 1 ≤ purge.now.1 }
+    requires { 1 ≤ number_of raise.now }
     ensures { IsMemberNode roster.now id node →
         IfOk result (λ standing. standing_of standing
-        ≡ Shut (left_by node.state purge.now kept.now)) }
+        ≡ Shut (left_by node.state raise.now kept.now)) }
 {
-    let base = node.new_base(&purge.0, purge.1);
-    node.drop_below(base)?;
+    let least = least_of(&node, raise);
+    node.drop_below(least)?;
     let state = node.state()?;
     Ok(Standing::Shut(ClosedNode {
-        floors: stored(alloc, node.into_floors(), &purge.0, purge.1, kept)?,
+        floors: stored(alloc, node.into_floors(), raise, kept)?,
         copies: state.copies,
         next: state.next,
     }))
 }
 
-/// An open node's step lacked memory: nothing changes, but at a purge the node may have closed
+/// An open node's step lacked memory: nothing changes, but at a raise the node may have closed
 /// (`is_closed`).
 fn wants_memory(
     alloc: Global,
@@ -93,17 +103,17 @@ fn wants_memory(
 ) -> Result<Standing, AllocError>
     ensures standing { IsMemberNode roster.now id node →
         IfOk result (λ standing. standing_of standing
-        ≡ wanting node.state (purge_of_event (setting roster.now id) event.now)
+        ≡ wanting node.state (raise_of_event (setting roster.now id) event.now)
         is_closed kept.now) }
     ensures sound { IsMemberNode roster.now id node → IfOk result (IsSound roster.now id) }
 {
-    match purge_in(alloc, roster, event)? {
-        Some(purge) if is_closed => closed_by(alloc, roster, id, node, &purge, kept),
+    match raise_in(alloc, roster, event)? {
+        Some(raise) if is_closed => closed_by(alloc, roster, id, node, &raise, kept),
         _ => Ok(Standing::Open(node)),
     }
 }
 
-/// An open node's floor store failed: that comes only at a purge, and closes the node. Otherwise
+/// An open node's floor store failed: that comes only at a raise, and closes the node. Otherwise
 /// returns `OtherReply`.
 fn fails(
     alloc: Global,
@@ -115,11 +125,11 @@ fn fails(
 ) -> Result<Result<Standing, Cause>, AllocError>
     ensures stepped { IsMemberNode roster.now id node →
         IfOk result (λ stepped. stepped_of stepped
-        ≡ failing node.state (purge_of_event (setting roster.now id) event.now) kept.now) }
+        ≡ failing node.state (raise_of_event (setting roster.now id) event.now) kept.now) }
     ensures sound { IsMemberNode roster.now id node → IfOk result (AreSound roster.now id) }
 {
-    match purge_in(alloc, roster, event)? {
-        Some(purge) => Ok(Ok(closed_by(alloc, roster, id, node, &purge, kept)?)),
+    match raise_in(alloc, roster, event)? {
+        Some(raise) => Ok(Ok(closed_by(alloc, roster, id, node, &raise, kept)?)),
         None => Ok(Err(Cause::OtherReply)),
     }
 }

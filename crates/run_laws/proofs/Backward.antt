@@ -1,7 +1,6 @@
 -- Each step with other tags comes of a step with the node's own. The function gives the same with
--- other tags; and a step that closes the node drops the copies below a new base, whatever their tags.
-use Rattle.std.proofs.Common.{◌≡◌, ℕ, Bool, true, List, [], Option, Some, None, Result, Ok, Err, refl, sym, ◌∙◌, ap, subst, inl, inr}
-use Rattle.floor_rules.specs.Floors.{new_base}
+-- other tags; and a step that closes the node drops the copies that were to go first, whatever their tags.
+use Rattle.std.proofs.Common.{◌≡◌, ℕ, Bool, true, List, [], Option, Some, None, Result, Ok, Err, refl, sym, ◌∙◌, subst, inl, inr}
 use Rattle.object_store.specs.declared.copy.WebCopy.{WebCopy}
 use Rattle.object_store.specs.Listed.{without_all_below}
 use Rattle.node_rules.specs.declared.state.Pending.{Pending}
@@ -13,7 +12,9 @@ use Rattle.node_rules.specs.declared.reply.StepFault.{StepFault}
 use Rattle.node_rules.specs.declared.reply.StepFault.TheVariants as fault
 use Rattle.node_rules.specs.State.{Setting, Stepped}
 use Rattle.node_rules.specs.Step.{step}
-use Rattle.node_rules.specs.Relation.{Steps, Closes, ClosesOn, purge_in}
+use Rattle.node_rules.specs.declared.raising.Raise.{Raise}
+use Rattle.node_rules.specs.Raises.{least_by}
+use Rattle.node_rules.specs.Relation.{Steps, Closes, ClosesOn, raise_in}
 use Rattle.node_rules.specs.Tags.{retag_state, retag_event}
 use Rattle.node_rules.proofs.Lawful.{step_steps}
 use Rattle.node_rules.proofs.TagLists.{without_all_below-retag}
@@ -28,34 +29,34 @@ has_parts s copies pending next closed of_copies of_pending of_next of_closed =
     rw (← of_copies, ← of_pending, ← of_next, ← of_closed) refl
 
 module _ {X Y : Type 0} (f : X → Y) (g : Setting) (s : NodeState X) (e : Event X) (mark : X) where
-  purge_in-retag : (e : Event X) → purge_in g (retag_event f e) ≡ purge_in g e
-  purge_in-retag (event.Datagram from message now) = refl
-  purge_in-retag _ = refl
+  raise_in-retag : (e : Event X) → raise_in g (retag_event f e) ≡ raise_in g e
+  raise_in-retag (event.Datagram from message now) = refl
+  raise_in-retag _ = refl
 
-  -- the copies that a node keeps which closes at this purge
-  abbrev left : Option (List ℕ × ℕ) → List (WebCopy X)
+  -- the copies that a node keeps which closes at this raise
+  abbrev left : Option Raise → List (WebCopy X)
   left None = s.copies
-  left (Some x) = without_all_below (new_base s.floors x.0 x.1) s.copies
+  left (Some raise) = without_all_below (least_by raise s.floors) s.copies
 
   -- the closed state with the node's own tags that a closed state with other tags comes of
-  abbrev shut_by : Option (List ℕ × ℕ) → NodeState Y → NodeState X
+  abbrev shut_by : Option Raise → NodeState Y → NodeState X
   shut_by o next = record { floors = next.floors; copies = left o; pending = []; next = s.next; closed = true }
 
   abbrev shut : NodeState Y → NodeState X
-  shut next = shut_by (purge_in g e) next
+  shut next = shut_by (raise_in g e) next
 
-  shut_on : (o : Option (List ℕ × ℕ)) (next : NodeState Y) → ClosesOn (retag_state f s) o next → ClosesOn s o (shut_by o next)
+  shut_on : (o : Option Raise) (next : NodeState Y) → ClosesOn (retag_state f s) o next → ClosesOn s o (shut_by o next)
       × (retag_state f (shut_by o next) ≡ next)
   shut_on None next h = absurd h
-  shut_on (Some x) next h = (
+  shut_on (Some raise) next h = (
     record { closed = refl; pending = refl; copies = refl; block = refl; floors = h.floors },
-    has_parts next _ _ _ _ (h.copies ∙ without_all_below-retag f (new_base s.floors x.0 x.1) s.copies) h.pending h.block
+    has_parts next _ _ _ _ (h.copies ∙ without_all_below-retag f (least_by raise s.floors) s.copies) h.pending h.block
         h.closed,
   )
 
   closes : (next : NodeState Y) → Closes g (retag_state f s) (retag_event f e) next → Closes g s e (shut next) × (retag_state f (shut next) ≡ next)
   closes next h =
-      let done = shut_on (purge_in g e) next (subst (λ o. ClosesOn (retag_state f s) o next) (purge_in-retag e) h.1)
+      let done = shut_on (raise_in g e) next (subst (λ o. ClosesOn (retag_state f s) o next) (raise_in-retag e) h.1)
       in ((h.0, done.0), done.1)
 
   by_function : ComesOfStep f g s e mark (step g (retag_state f s) (retag_event f e) (f mark)).outcome

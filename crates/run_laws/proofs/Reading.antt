@@ -23,6 +23,8 @@ from_origin : (t : Tables) (steps : List Step) (key : List ℕ) (c : WebCopy ℕ
 from_origin t steps key c marked (inl origin) = origin
 from_origin t steps key c marked (inr foreign) = absurd (omega (arith, marked, foreign.unmarked))
 
+-- The three entries stand for three events of the run in the world, in their order, so the law of the world
+-- says that the copy's mark is later than the issue.
 pub serve_nothing_old : (t : Tables) (records : List Record) (entries : List MasterEntry) (steps : List Step) → IsRoster t →
     (run : IsRecordedRun t records entries steps) → EntriesServeNothingOld t run.notes steps
 serve_nothing_old t records entries steps proper run number key c issue report serve first done later is_issue issues is_report reports before is_serve serves

@@ -76,8 +76,8 @@ taken_begins_nothing t from to id e outcome here asks taken =
     let (first, (key, (seen, is_first)), (second, (its_key, takes), end)) : Run t from.place from.world
     (event_step (world.Clock (moment e)) Nothing ∷ event_step taken.happens (Replied id outcome) ∷ []) to.world =
     subst (λ (s : List Step). Run t from.place from.world s to.world) taken.steps taken.goes.run in
-    let at_clock : Takes t (from.place + 1) (with_clock from.world (moment e)) (consequence t (with_clock from.world (moment e)) taken.happens) (Replied id outcome)
-    second =
+    let at_clock : Takes t (from.place + 1) (with_clock from.world (moment e)) (consequence t (with_clock from.world (moment e)) taken.happens)
+    (Replied id outcome) second =
     subst (λ (w : World). Takes t (from.place + 1) w (consequence t w taken.happens) (Replied id outcome) second) is_first takes in
     let met_asks : is_from_sibling (setting t id) taken.met ≡ true = sibling_same (setting t id) taken.met ∙ ap (is_from_sibling (setting t id)) taken.event
     ∙ asks in

@@ -1,6 +1,6 @@
 -- One more request waits, or those of a node are dropped. A look-up takes the first of a node and
 -- block, which is the one that was added last.
-use Rattle.std.proofs.Common.{◌≡◌, ℕ, Bool, true, false, cond, not, ◌&&◌, List, [], ◌∷◌, ◌++◌, filter, Option, Some, None, nat_eq, eqb-true, refl, sym, ◌∙◌, ap}
+use Rattle.std.proofs.Common.{◌≡◌, ℕ, Bool, true, false, cond, not, ◌&&◌, List, ◌∷◌, filter, Option, Some, None, nat_eq, eqb-true, refl, sym, ◌∙◌, ap}
 use Rattle.std.proofs.Common.{inl, inr, arith}
 use Rattle.std.specs.Prelude.{find, option_map, OnOk, Result, Ok, Err}
 use Rattle.std.specs.HashMap.{get}

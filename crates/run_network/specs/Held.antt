@@ -1,6 +1,6 @@
 -- How what was sent is held, and when that is the network of run_rules (Holds, the last
 -- definition).
-use Rattle.std.specs.Prelude.{◌≡◌, ◌↔◌, ℕ, nat_eq, List, ◌++◌, Contains, find, option_map, Option, None, Some}
+use Rattle.std.specs.Prelude.{◌≡◌, ◌↔◌, ℕ, nat_eq, List, ◌++◌, Contains, find, option_map, Option}
 use Rattle.std.specs.HashMap.{get}
 use Rattle.std.specs.Option.{option_and_then}
 use Rattle.values_tables.specs.declared.plain.Tables.{Tables}

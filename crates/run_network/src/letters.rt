@@ -1,9 +1,11 @@
 //! Datagrams that members and the master sent.
 ghost use Rattle.std.specs.Prelude.{◌≡◌, ◌⊎◌, ◌↔◌, ℕ, [], ◌∷◌, ◌++◌, List, map, Some, true, IsTrue};
 ghost use Rattle.std.specs.Prelude.{OnOk};
+ghost use Rattle.std.specs.List.{flat_map};
 ghost use Rattle.roster.specs.Lookups.{member_of as member_by_id, is_master as is_master_at};
-ghost use Rattle.world_rules.specs.Consequence.{clear_to, clears_of};
-ghost use Rattle.purge_rules.specs.Clear.{clear as clear_of};
+ghost use Rattle.world_rules.specs.Consequence.{clear_to, clear_if};
+ghost use Rattle.purge_rules.specs.Members.{possible_ids};
+ghost use Rattle.purge_rules.specs.Clear.{clear as clear_of, base_clear as base_clear_of};
 ghost use Rattle.world_rules.specs.World.{Datagram, datagram_from, datagrams_from};
 ghost use Rattle.run_network.specs.declared.letters.Letter.{Letter as ALetter};
 ghost use Rattle.run_network.specs.declared.letters.Acknowledgement.{Acknowledgement as AnAcknowledgement};
@@ -14,7 +16,7 @@ use crate::bags::Bags;
 use crate::prints::letter_print;
 use node_copies::{copy_of_sent, same_message};
 use node_rules::{Message, Outgoing, Sent};
-use purge_rules::clear;
+use purge_rules::{MemberSet, base_clear, clear};
 use roster::{Address, Cache, Roster, Udp, address_by};
 use std::alloc::{AllocError, Global};
 use std::hash::RandomState;
@@ -297,21 +299,67 @@ impl Letters {
         }
     }
 
-    /// Adds the CLR of a new purge to each member.
-    pub(crate) fn clear_all(
+    /// Adds the CLR of a new purge to the member with this id, if there is one and the purge needs
+    /// it.
+    fn clear_needed(
         &mut self,
         alloc: Global,
         roster: &Roster,
+        needed: MemberSet,
+        member: u8,
         number: u32,
         key: &Key,
     ) -> Result<(), AllocError>
         ensures { OnOk result ((sent : List Datagram) → HoldsLetters roster.now self.old sent →
-            HoldsLetters roster.now self.new (sent ++ clears_of roster.now number key.now)) }
+            HoldsLetters roster.now self.new
+            (sent ++ clear_if roster.now needed number key.now member)) }
+    {
+        if needed.has(member) {
+            self.clear_one(alloc, roster, member, number, key)
+        } else {
+            Ok(())
+        }
+    }
+
+    /// Adds the CLR of a new purge to each member that it needs.
+    pub(crate) fn clear_all(
+        &mut self,
+        alloc: Global,
+        roster: &Roster,
+        needed: MemberSet,
+        number: u32,
+        key: &Key,
+    ) -> Result<(), AllocError>
+        ensures { OnOk result ((sent : List Datagram) → HoldsLetters roster.now self.old sent →
+            HoldsLetters roster.now self.new
+            (sent ++ flat_map (clear_if roster.now needed number key.now) possible_ids)) }
     {
         let ids = [1u8, 2, 3, 4, 5, 6, 7, 8, 9, 10, 11, 12, 13, 14, 15, 16];
         for id in &ids {
-            self.clear_one(alloc, roster, *id, number, key)?;
+            self.clear_needed(alloc, roster, needed, *id, number, key)?;
         }
         Ok(())
+    }
+
+    /// Adds the CLR of an admission to the member with this id, if there is one.
+    pub(crate) fn admit(
+        &mut self,
+        alloc: Global,
+        roster: &Roster,
+        member: u8,
+        number: u32,
+    ) -> Result<(), AllocError>
+        ensures { OnOk result ((sent : List Datagram) → HoldsLetters roster.now self.old sent →
+            HoldsLetters roster.now self.new
+            (sent ++ clear_to roster.now (Some (base_clear_of number))
+            (member_by_id roster.now member))) }
+    {
+        match roster.member(member) {
+            Some(member) => {
+                let clr = Sent::new(Message::Htcp(base_clear(alloc, number)?));
+                self.send(alloc, roster, roster.master(), member.cache.htcp, &clr)
+            }
+            None => Ok(()),
+        }
     }
 }

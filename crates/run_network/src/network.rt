@@ -12,7 +12,7 @@ use crate::asks::Asks;
 use crate::letters::Letters;
 use crate::waits::Waits;
 use node_rules::{Begin, Event, Reply, SERIALS, Serve};
-use purge_rules::{MasterAnswer, MasterCall, MasterFault};
+use purge_rules::{MasterAnswer, MasterCall, MasterFault, Nodes, Purges};
 use roster::Roster;
 use std::alloc::{AllocError, Global};
 use std::hash::RandomState;
@@ -175,22 +175,29 @@ impl<'a> Network<'a> {
         self.waits.forget(node);
     }
 
-    /// Adds all that a call of the master sends: the CLR of a new purge to each member.
+    /// Adds all that a call of the master sends, where it has these purges: the CLR of a new purge
+    /// to each member that it needs, and that of an admission to the admitted member.
     ///
     /// Fault: an allocation failed; nothing is promised of the network then.
     pub fn clear(
         &mut self,
         alloc: Global,
         roster: &Roster,
+        purges: &Purges,
         call: &MasterCall,
         answer: &Result<MasterAnswer, MasterFault>,
     ) -> Result<(), AllocError>
         ensures { OnOk result ((sent : ANetwork) → Holds roster.now self.old sent →
-            Holds roster.now self.new (with_clears roster.now sent call.now answer.now)) }
+            Holds roster.now self.new
+            (with_clears roster.now purges.now.admissions sent call.now answer.now)) }
     {
         match (call, answer) {
             (MasterCall::Issue(key), Ok(MasterAnswer::Issue(number))) => {
-                self.letters.clear_all(alloc, roster, *number, key)
+                let needed = purges.needed(&Nodes::of(roster), *number);
+                self.letters.clear_all(alloc, roster, needed, *number, key)
+            }
+            (MasterCall::Admit(member), Ok(MasterAnswer::Admit(number))) => {
+                self.letters.admit(alloc, roster, *member, *number)
             }
             _ => Ok(()),
         }

@@ -1,14 +1,13 @@
 -- Tracks are built from their ends: each note that is pushed stands before those of the later
 -- items, as the definitions of run_rules have it.
-use Rattle.std.proofs.Common.{◌≡◌, ℕ, zero, suc, ◌+◌, ◌-◌, ◌<◌, ◌≤◌, Bool, true, false, cond, not, List, [], ◌∷◌, ◌++◌, length, drop, get_or, filter, Option}
-use Rattle.std.proofs.Common.{Some, None, unwrap_or, nat_eq, refl, sym, ◌∙◌, ap, append_assoc, arith}
+use Rattle.std.proofs.Common.{◌≡◌, ℕ, ◌+◌, ◌-◌, ◌<◌, ◌≤◌, Bool, true, false, cond, not, List, [], ◌∷◌, ◌++◌, length, drop, get_or, filter, Option}
+use Rattle.std.proofs.Common.{Some, unwrap_or, nat_eq, refl, sym, ◌∙◌, ap, append_assoc, arith}
 use Rattle.std.specs.Prelude.{slice_get, option_map}
 use Rattle.std.proofs.lemmas.List.{drop_more}
 use Rattle.floor_rules.specs.Floors.{FloorTable}
 use Rattle.node_book.specs.declared.book.NodeEntry.{NodeEntry}
 use Rattle.node_book.specs.declared.record.Record.{Record}
 use Rattle.purge_master.specs.declared.book.MasterEntry.{MasterEntry}
-use Rattle.node_rules.proofs.Cases.{branches}
 use Rattle.run_rules.specs.Notes.{Note, Opens, Steps, Closes, Calls, steps_of, is_closed_before, is_closed_answer, last_place, kept_by, record_notes, notes_of}
 use Rattle.run_rules.specs.Notes.{notes_of_all, is_of, calls_of, is_shut_before, is_shut_by, is_status, nodes_in}
 

@@ -1,6 +1,6 @@
 -- The least place that is not greater than the one before it: the loop goes from the end of a track
 -- to its start, and each note adds the fall between it and the next.
-use Rattle.std.proofs.Common.{◌≡◌, ℕ, ◌+◌, ◌<◌, ◌≤◌, Bool, true, false, cond, not, List, [], ◌∷◌, ◌++◌, length, take, get_or, Option, Some, None, nat_le}
+use Rattle.std.proofs.Common.{◌≡◌, ℕ, ◌+◌, ◌<◌, Bool, true, false, cond, not, List, [], ◌∷◌, ◌++◌, length, take, get_or, Option, Some, None, nat_le}
 use Rattle.std.proofs.Common.{nat_lt, append-nil, refl, sym, ◌∙◌, ap, arith}
 use Rattle.std.specs.Global.{Vec}
 use Rattle.std.specs.List.{flat_map, cons_option}

@@ -1,13 +1,13 @@
 -- The next note is the first of the track at the index that was found, and the order goes on with
 -- the rest. By induction over the tracks, as the look-up goes over them.
 use Rattle.std.proofs.Common.{◌≡◌, ◌⊎◌, ℕ, zero, suc, ◌+◌, Bool, true, false, cond, List, [], ◌∷◌, ◌++◌, length, set, map, Option, Some, None, nat_le, nat_eq}
-use Rattle.std.proofs.Common.{eqb-true, refl, sym, ◌∙◌, ap, subst, inl, inr, length-append, arith}
+use Rattle.std.proofs.Common.{eqb-true, refl, sym, ◌∙◌, ap, inl, inr, length-append, arith}
 use Rattle.std.specs.Prelude.{slice_get, option_map}
 use Rattle.std.specs.List.{flat_map, cons_option}
 use Rattle.std.proofs.lemmas.Option.{none-some}
-use Rattle.node_rules.proofs.Cases.{branches, true_not_false}
+use Rattle.node_rules.proofs.Cases.{true_not_false}
 use Rattle.run_rules.specs.Notes.{Note, Taken, rank_of, rank_by, ranks_of, place_in, least, lesser, take_from, take_at, take_by, next_note, count_of}
-use Rattle.run_rules.specs.Verdict.{OrderedNote, ordered, double_by, double_of, order_by, order_on, count_in}
+use Rattle.run_rules.specs.Verdict.{double_by, double_of, order_by, order_on, count_in}
 use Rattle.run_rules.proofs.Lists.{either, same_some}
 use Rattle.run_notes.specs.Held.{place_at, place_in_rest, has_rank}
 

@@ -4,8 +4,8 @@
 use Rattle.std.proofs.Common.{◌≡◌, ℕ, ◌+◌, Bool, true, false, cond, List, [], ◌∷◌, ◌++◌, Option, Some, None, Result, Ok, Err, find, refl, sym, ◌∙◌, ap, inl}
 use Rattle.std.proofs.Common.{inr, subst}
 use Rattle.std.proofs.lemmas.List.Elements.{Contains-append_left}
-use Rattle.floor_rules.specs.Floors.{FloorTable, new_base, raised}
-use Rattle.floor_rules.specs.Store.{IsBeforeOrAfter}
+use Rattle.std.specs.Prelude.{◌⊎◌}
+use Rattle.floor_rules.specs.Floors.{FloorTable}
 use Rattle.object_store.specs.declared.copy.WebCopy.{WebCopy}
 use Rattle.object_store.specs.Listed.{without_all_below}
 use Rattle.values_tables.specs.declared.plain.Tables.{Tables}
@@ -20,7 +20,9 @@ use Rattle.node_rules.specs.declared.reply.StepFault.{StepFault}
 use Rattle.node_rules.specs.declared.reply.StepFault.TheVariants as fault
 use Rattle.node_rules.specs.State.{Setting, Stepped, setting, closed_node}
 use Rattle.node_rules.specs.Step.{step}
-use Rattle.node_rules.specs.Relation.{ClosesOn, Closes, purge_in}
+use Rattle.node_rules.specs.declared.raising.Raise.{Raise}
+use Rattle.node_rules.specs.Raises.{raised_by, least_by}
+use Rattle.node_rules.specs.Relation.{ClosesOn, Closes, raise_in}
 use Rattle.node_rules.specs.Relation.{Steps as NodeStepsBy}
 use Rattle.node_rules.specs.Tags.{retag_reply, retag_stepped}
 use Rattle.node_rules.proofs.TagLists.{without_all_below-retag}
@@ -30,8 +32,7 @@ use Rattle.node_rules.proofs.Stepping.{the_function_closes_no_node}
 use Rattle.node_book.specs.declared.book.NodeEntry.{NodeEntry}
 use Rattle.world_rules.specs.declared.event.WorldEvent.TheVariants as world
 use Rattle.world_rules.specs.World.{World, Waiting, reply_in, after_node, is_waiting_as, waits_now}
-use Rattle.world_rules.specs.declared.outcome.WorldFault.TheVariants.{NoSuchPacket}
-use Rattle.world_rules.specs.Consequence.{Replied, Nothing, Consequence, Ends, Refused as WorldRefused, consequence, with_clock, with_member_state}
+use Rattle.world_rules.specs.Consequence.{Replied, Nothing, consequence, with_clock, with_member_state}
 use Rattle.world_rules.specs.Run.{Step, Run, Takes}
 use Rattle.world_rules.specs.Asked.{moment}
 use Rattle.run_rules.specs.Sent.{Network, with_reply, without_waiting, IsSent}
@@ -41,10 +42,9 @@ use Rattle.run_rules.specs.declared.verdict.Cause.TheVariants.{NotSent, OtherRep
 use Rattle.run_rules.specs.Stored.{are_same, stored_by}
 use Rattle.run_rules.specs.Judging.{Fine, Flawed, Reaches, IsStep, StepsBy, OpenStepsBy, StepsSo, after_entry, wanting, failing, left_by, shut_by, is_astray}
 use Rattle.run_rules.specs.Judging.{judged, JudgesEntry}
-use Rattle.run_rules.specs.Recorded.{Progress, Goes, IsTaken, ChangesNothing, event_step, unmarked, unmarked_event, unmarked_outcome, node_in}
+use Rattle.run_rules.specs.Recorded.{Progress, IsTaken, ChangesNothing, event_step, unmarked, unmarked_event, unmarked_outcome, node_in}
 use Rattle.run_rules.specs.Recorded.{Stands}
 use Rattle.run_rules.specs.Notes.{Note, Steps}
-use Rattle.world_rules.proofs.MemberStates.{node_at-same, node_at-other}
 use Rattle.run_rules.proofs.Lists.{ok_same}
 use Rattle.run_rules.proofs.Refusals.{no_fault, refusal_same, closed_refuses}
 use Rattle.run_rules.proofs.Matching.{NetworkMatches, waits_dropped, waits_dropped_here}
@@ -68,16 +68,16 @@ network_now : {n : Network} {w : World} {now : ℕ} → NetworkMatches n w → N
 network_now h = record { datagrams = h.datagrams; asks = h.asks; answers = h.answers; waiting = h.waiting }
 
 -- what was sent before is still sent
--- no request begins to wait with a purge
-purge_waits : (g : Setting) (id : ℕ) (e : Event ℕ) (serial : ℕ) (b : Option Begin) (x : List ℕ × ℕ) → purge_in g e ≡ Some x → waits_now id e serial b ≡ []
-purge_waits g id (event.Client ask now) serial b x is = refl
-purge_waits g id (event.Datagram from m now) serial b x is = refl
-purge_waits g id (event.PeerAsk asker ask now) serial b x is = cc
-purge_waits g id (event.PeerAnswer s peer key answer tag now) serial b x is = refl
-purge_waits g id (event.OriginAnswer s key answer now) serial b x is = refl
-purge_waits g id (event.ForeignAnswer s peer key answer tag now) serial b x is = refl
-purge_waits g id (event.FetchFailed s now) serial b x is = refl
-purge_waits g id (event.Expired s now) serial b x is = refl
+-- no request begins to wait with a raise
+raise_waits : (g : Setting) (id : ℕ) (e : Event ℕ) (serial : ℕ) (b : Option Begin) (x : Raise) → raise_in g e ≡ Some x → waits_now id e serial b ≡ []
+raise_waits g id (event.Client ask now) serial b x is = refl
+raise_waits g id (event.Datagram from m now) serial b x is = refl
+raise_waits g id (event.PeerAsk asker ask now) serial b x is = cc
+raise_waits g id (event.PeerAnswer s peer key answer tag now) serial b x is = refl
+raise_waits g id (event.OriginAnswer s key answer now) serial b x is = refl
+raise_waits g id (event.ForeignAnswer s peer key answer tag now) serial b x is = refl
+raise_waits g id (event.FetchFailed s now) serial b x is = refl
+raise_waits g id (event.Expired s now) serial b x is = refl
 
 network_kept : (t : Tables) (n : Network) (w : World) (id : ℕ) (e : Event ℕ) (serial : ℕ) (o : Result (Reply ℕ) StepFault) (next : NodeState ℕ) →
     waits_now id e serial (reply_in o).begin ≡ [] → NetworkMatches n w → NetworkMatches n (after_node t w id e serial o next)
@@ -106,25 +106,25 @@ network_dropped n w id h = record {
       waits_dropped_here n.waiting w.waiting id h.waiting;
 }
 
-purge_unmarked : (g : Setting) (e : Event ℕ) → purge_in g (unmarked_event e) ≡ purge_in g e
-purge_unmarked g (event.Client ask now) = refl
-purge_unmarked g (event.Datagram from m now) = refl
-purge_unmarked g (event.PeerAsk asker ask now) = refl
-purge_unmarked g (event.PeerAnswer serial peer key answer tag now) = refl
-purge_unmarked g (event.OriginAnswer serial key answer now) = refl
-purge_unmarked g (event.ForeignAnswer serial peer key answer tag now) = refl
-purge_unmarked g (event.FetchFailed serial now) = refl
-purge_unmarked g (event.Expired serial now) = refl
+raise_unmarked : (g : Setting) (e : Event ℕ) → raise_in g (unmarked_event e) ≡ raise_in g e
+raise_unmarked g (event.Client ask now) = refl
+raise_unmarked g (event.Datagram from m now) = refl
+raise_unmarked g (event.PeerAsk asker ask now) = refl
+raise_unmarked g (event.PeerAnswer serial peer key answer tag now) = refl
+raise_unmarked g (event.OriginAnswer serial key answer now) = refl
+raise_unmarked g (event.ForeignAnswer serial peer key answer tag now) = refl
+raise_unmarked g (event.FetchFailed serial now) = refl
+raise_unmarked g (event.Expired serial now) = refl
 
-purge_reaches : (g : Setting) (s : NodeState (Unit {0})) (e : Event (Unit {0})) (x : List ℕ × ℕ) → purge_in g e ≡ Some x → Reaches s e
-purge_reaches g s (event.Client ask now) x is = tt
-purge_reaches g s (event.Datagram from m now) x is = tt
-purge_reaches g s (event.PeerAsk asker ask now) x is = tt
-purge_reaches g s (event.PeerAnswer serial peer key answer tag now) x is = tt
-purge_reaches g s (event.OriginAnswer serial key answer now) x is = cc
-purge_reaches g s (event.ForeignAnswer serial peer key answer tag now) x is = cc
-purge_reaches g s (event.FetchFailed serial now) x is = tt
-purge_reaches g s (event.Expired serial now) x is = tt
+raise_reaches : (g : Setting) (s : NodeState (Unit {0})) (e : Event (Unit {0})) (x : Raise) → raise_in g e ≡ Some x → Reaches s e
+raise_reaches g s (event.Client ask now) x is = tt
+raise_reaches g s (event.Datagram from m now) x is = tt
+raise_reaches g s (event.PeerAsk asker ask now) x is = tt
+raise_reaches g s (event.PeerAnswer serial peer key answer tag now) x is = tt
+raise_reaches g s (event.OriginAnswer serial key answer now) x is = cc
+raise_reaches g s (event.ForeignAnswer serial peer key answer tag now) x is = cc
+raise_reaches g s (event.FetchFailed serial now) x is = tt
+raise_reaches g s (event.Expired serial now) x is = tt
 
 -- a fault that the function of a step returns
 abbrev IsOwn : StepFault → Type 0
@@ -155,9 +155,10 @@ closing_steps g s e mark fault.StoreFault next closing closes = closes
 closing_steps g s e mark fault.NoMemory next closing closes = inr closes
 
 -- the floors from before the raise or after it
-before_or_after : (is_after : Bool) (floors : FloorTable) (key : List ℕ) (n : ℕ) → IsBeforeOrAfter floors key n (cond is_after (raised floors key n) floors)
-before_or_after true floors key n = inr refl
-before_or_after false floors key n = inl refl
+before_or_after : (is_after : Bool) (floors : FloorTable) (raise : Raise) →
+    (cond is_after (raised_by raise floors) floors ≡ floors) ⊎ (cond is_after (raised_by raise floors) floors ≡ raised_by raise floors)
+before_or_after true floors raise = inr refl
+before_or_after false floors raise = inl refl
 
 -- the note stands for events, after which the world matches the state of the run
 pub record Follows (t : Tables) (p : Progress) (note : Note) (next : Board) : Type 0 where
@@ -341,42 +342,42 @@ module _ (t : Tables) (b : Board) (p : Progress) (m : Matches t b p) (id : ℕ) 
       matches = still (Shut s) _ (member, is_shut, same) (network_dropped b.network p.world id m.network);
     }
 
-    -- The node closes at a purge. It has dropped the copies below a new base, and has the floors that are stored.
-    module _ (is_open : node.closed ≡ false) (f : StepFault) (closing : IsClosing f) (is_err : entry.outcome ≡ Err f) (key : List ℕ) (n : ℕ)
-        (purges : purge_in g entry.event ≡ Some (key, n)) (heard : IsSent t b.network id entry.event) (proper : IsRoster t) where
+    -- The node closes at a raise. It has dropped the copies that were to go first, and has the floors that are stored.
+    module _ (is_open : node.closed ≡ false) (f : StepFault) (closing : IsClosing f) (is_err : entry.outcome ≡ Err f) (raise : Raise)
+        (raises : raise_in g entry.event ≡ Some raise) (heard : IsSent t b.network id entry.event) (proper : IsRoster t) where
       abbrev left : NodeState (Unit {0})
-      left = left_by (unmarked node) (key, n) kept
+      left = left_by (unmarked node) raise kept
 
       -- the same with marks
       abbrev closed : NodeState ℕ
       closed = record (closed_node node) {
-        floors = stored_by node.floors key n kept;
+        floors = stored_by node.floors raise kept;
         copies =
-            without_all_below (new_base node.floors key n) node.copies;
+            without_all_below (least_by raise node.floors) node.copies;
       }
 
       same_left : unmarked closed ≡ left
       same_left = ap (λ (copies : List (WebCopy (Unit {0}))). record left { copies = copies })
-          (sym (without_all_below-retag (λ _. tt) (new_base node.floors key n) node.copies))
+          (sym (without_all_below-retag (λ _. tt) (least_by raise node.floors) node.copies))
 
       how : Meets t p.world id entry.event
       how = meets t proper p.world id member b.network m.network (unmarked node) refl entry.event heard
-          (purge_reaches g (unmarked node) entry.event (key, n) purges)
+          (raise_reaches g (unmarked node) entry.event raise raises)
 
-      meets_purge : purge_in g how.met ≡ Some (key, n)
-      meets_purge = sym (purge_unmarked g how.met) ∙ ap (purge_in g) how.event ∙ purges
+      meets_raise : raise_in g how.met ≡ Some raise
+      meets_raise = sym (raise_unmarked g how.met) ∙ ap (raise_in g) how.event ∙ raises
 
       closes : NodeStepsBy g node how.met (p.place + 1) (Err f) closed
       closes =
           closing_steps g node how.met (p.place + 1) f closed closing (
             is_open,
-            subst (λ (o : Option (List ℕ × ℕ)). ClosesOn node o closed) (sym meets_purge) record {
+            subst (λ (o : Option Raise). ClosesOn node o closed) (sym meets_raise) record {
               closed = refl;
               pending = refl;
               copies = refl;
               block = refl;
               floors =
-                  before_or_after (are_same kept (raised node.floors key n)) node.floors key n;
+                  before_or_after (are_same kept (raised_by raise node.floors)) node.floors raise;
             },
           )
 
@@ -397,7 +398,7 @@ module _ (t : Tables) (b : Board) (p : Progress) (m : Matches t b p) (id : ℕ) 
               purges = m.purges;
               network = network_dropped b.network to.world id
                   (network_kept t b.network (with_clock p.world (moment entry.event)) id how.met how.serial (Err f) closed
-                  (purge_waits g id how.met how.serial None (key, n) meets_purge) (network_now m.network));
+                  (raise_waits g id how.met how.serial None raise meets_raise) (network_now m.network));
             };
           }
 
@@ -418,27 +419,27 @@ module _ (t : Tables) (b : Board) (p : Progress) (m : Matches t b p) (id : ℕ) 
           (refused is_open f own next is_err is_step)
       refused_by f is_err own st result fine (inr (other, is)) = absurd (no_fault st OtherReply (sym fine ∙ is))
 
-      wanting_by : entry.outcome ≡ Err fault.NoMemory → (st : Standing) (o : Option (List ℕ × ℕ)) (c : Bool) → purge_in g entry.event ≡ o → is_closed ≡ c →
+      wanting_by : entry.outcome ≡ Err fault.NoMemory → (st : Standing) (o : Option Raise) (c : Bool) → raise_in g entry.event ≡ o → is_closed ≡ c →
           st ≡ wanting (unmarked node) o c kept → Follows t p note (after_entry t b id entry st)
-      wanting_by is_err st (Some x) true purges ended is =
-          subst (λ (s : Standing). Follows t p note (after_entry t b id entry s)) (sym is) (ends is_open fault.NoMemory tt is_err x.0 x.1 purges heard proper)
-      wanting_by is_err st (Some x) false purges ended is = subst (λ (s : Standing). Follows t p note (after_entry t b id entry s)) (sym is)
+      wanting_by is_err st (Some x) true raises ended is =
+          subst (λ (s : Standing). Follows t p note (after_entry t b id entry s)) (sym is) (ends is_open fault.NoMemory tt is_err x raises heard proper)
+      wanting_by is_err st (Some x) false raises ended is = subst (λ (s : Standing). Follows t p note (after_entry t b id entry s)) (sym is)
           (wants is_open is_err)
-      wanting_by is_err st None c purges ended is = subst (λ (s : Standing). Follows t p note (after_entry t b id entry s)) (sym is) (wants is_open is_err)
+      wanting_by is_err st None c raises ended is = subst (λ (s : Standing). Follows t p note (after_entry t b id entry s)) (sym is) (wants is_open is_err)
 
-      failing_by : entry.outcome ≡ Err fault.StoreFault → (st : Standing) (o : Option (List ℕ × ℕ)) → purge_in g entry.event ≡ o →
+      failing_by : entry.outcome ≡ Err fault.StoreFault → (st : Standing) (o : Option Raise) → raise_in g entry.event ≡ o →
           Ok st ≡ failing (unmarked node) o kept → Follows t p note (after_entry t b id entry st)
-      failing_by is_err st (Some x) purges is =
+      failing_by is_err st (Some x) raises is =
           subst (λ (s : Standing). Follows t p note (after_entry t b id entry s)) (ok_same _ st _ refl (sym is))
-          (ends is_open fault.StoreFault tt is_err x.0 x.1 purges heard proper)
-      failing_by is_err st None purges is = absurd (no_fault st OtherReply is)
+          (ends is_open fault.StoreFault tt is_err x raises heard proper)
+      failing_by is_err st None raises is = absurd (no_fault st OtherReply is)
 
       open_by : (o : Result (Reply (Unit {0})) StepFault) → entry.outcome ≡ o → (st : Standing) (result : Result Standing Cause) → result ≡ Ok st →
           OpenStepsBy g (unmarked node) entry is_closed kept o result → Follows t p note (after_entry t b id entry st)
       open_by (Ok reply) is_ok st result fine (inl (reaches, steps)) = replied_by reply is_ok reaches st result fine steps
       open_by (Ok reply) is_ok st result fine (inr (none, is)) = absurd (no_fault st OtherReply (sym fine ∙ is))
-      open_by (Err fault.NoMemory) is_err st result fine is = wanting_by is_err st (purge_in g entry.event) is_closed refl refl (ok_same st _ result fine is)
-      open_by (Err fault.StoreFault) is_err st result fine is = failing_by is_err st (purge_in g entry.event) refl (sym fine ∙ is)
+      open_by (Err fault.NoMemory) is_err st result fine is = wanting_by is_err st (raise_in g entry.event) is_closed refl refl (ok_same st _ result fine is)
+      open_by (Err fault.StoreFault) is_err st result fine is = failing_by is_err st (raise_in g entry.event) refl (sym fine ∙ is)
       open_by (Err fault.Closed) is_err st result fine steps = refused_by fault.Closed is_err tt st result fine steps
       open_by (Err fault.UnknownSerial) is_err st result fine steps = refused_by fault.UnknownSerial is_err tt st result fine steps
       open_by (Err fault.Busy) is_err st result fine steps = refused_by fault.Busy is_err tt st result fine steps

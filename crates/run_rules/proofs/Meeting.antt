@@ -113,7 +113,8 @@ module _ (t : Tables) (proper : IsRoster t) (w : World) (id : ℕ) (member : is_
         met = event.PeerAsk a.sender a.ask now;
         serial = a.serial;
         keyed = tt;
-        consequences = ap (ask_delivered t (with_clock w now)) is ∙ ap (λ i. at_member t i (NodeSteps i (event.PeerAsk a.sender a.ask now) a.serial)) same.receiver
+        consequences = ap (ask_delivered t (with_clock w now)) is
+            ∙ ap (λ i. at_member t i (NodeSteps i (event.PeerAsk a.sender a.ask now) a.serial)) same.receiver
             ∙ comes _;
         event = ap (λ i. event.PeerAsk i a.ask now) same.sender ∙ ap (λ (x : Ask). event.PeerAsk asker x now) same.ask;
       }
@@ -143,7 +144,8 @@ module _ (t : Tables) (proper : IsRoster t) (w : World) (id : ℕ) (member : is_
   origin_consequence serial now answer key (AtPeer peer asked) h = absurd (true_not_false (sym h))
   origin_consequence serial now answer key Nowhere h = absurd (true_not_false (sym h))
 
-  foreign_consequence : (serial peer now : ℕ) (answer : AnswerText) (key : List ℕ) (fetch : Fetch ℕ) → is_foreign_fetch peer (retag_fetch (λ _. tt) fetch) ≡ true →
+  foreign_consequence : (serial peer now : ℕ) (answer : AnswerText) (key : List ℕ) (fetch : Fetch ℕ)
+      → is_foreign_fetch peer (retag_fetch (λ _. tt) fetch) ≡ true →
       foreign_by (with_clock w now) id serial answer key fetch ≡ NodeSteps id (event.ForeignAnswer serial peer key answer 0 now) 0
   foreign_consequence serial peer now answer key (AtPeer at asked) h =
       let (foreign, same) = and_parts (is_foreign_id peer) (nat_eq at peer) h in
@@ -169,6 +171,7 @@ module _ (t : Tables) (proper : IsRoster t) (w : World) (id : ℕ) (member : is_
       (find_of_map (retag_pending (λ _. tt)) (λ p. nat_eq (fetch_serial p) serial) (node_at w.states id).pending)
       (subst (λ (x : NodeState (Unit {0})). IsPending x serial key is_such) (sym same) h))
 
+  -- each kind of event has one event of the world that brings it, and that one is there, as it was sent
   pub meets : (n : Network) → NetworkMatches n w → (s : NodeState (Unit {0})) → unmarked (node_at w.states id) ≡ s → (e : Event (Unit {0})) → IsSent t n id e →
       Reaches s e → Meets t w id e
   meets n matches s same (event.Client ask now) sent reaches =

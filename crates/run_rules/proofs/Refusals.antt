@@ -32,15 +32,18 @@ use Rattle.node_rules.specs.declared.event.Event.TheVariants as event
 use Rattle.node_rules.specs.declared.reply.Reply.{Reply}
 use Rattle.node_rules.specs.declared.reply.StepFault.{StepFault}
 use Rattle.node_rules.specs.declared.reply.StepFault.TheVariants.{Closed}
+use Rattle.node_rules.specs.declared.raising.Raise.{Raise}
+use Rattle.node_rules.specs.declared.raising.Raise.TheVariants.{Floor, Base}
 use Rattle.node_rules.specs.State.{Setting, Stepped, replies, refuses, is_idle}
 use Rattle.node_rules.specs.Known.{has_origin, is_known}
 use Rattle.node_rules.specs.Fetching.{ask_peer, begin_read, read_origin, go_to, go_on}
-use Rattle.node_rules.specs.Asks.{is_cached_only, begin_round, begin_with_read, ask_around, begin_ask, begin_if_free, not_held, by_copy, ask_comes}
+use Rattle.node_rules.specs.Asks.{is_cached_only, begin_round, begin_with_read, ask_around, begin_ask, begin_if_free, not_held, by_copy, ask_comes_to}
+use Rattle.node_rules.specs.Asks.{ask_comes}
 use Rattle.node_rules.specs.Arrivals.{is_gateway_fault, use_answer, try_on, peer_gave, origin_gave, from_peer, peer_answer_to, peer_answer, foreign_answer}
 use Rattle.node_rules.specs.Arrivals.{from_origin, origin_answer_to, origin_answer, fails, failure_of, fetch_failed, round_moves, expires, expiry_of}
 use Rattle.node_rules.specs.Arrivals.{round_expired}
-use Rattle.node_rules.specs.Datagrams.{if_desired, icp_query, htcp_tst, hears, told_by, told_to, icp_told, htcp_told, purge, numbered_clr, plain_clr}
-use Rattle.node_rules.specs.Datagrams.{clr_by_line, htcp_clr, icp_comes, tst_refused, htcp_comes, datagram}
+use Rattle.node_rules.specs.Datagrams.{if_desired, icp_query, htcp_tst, hears, told_by, told_to, icp_told, htcp_told, purge, rebase, raising_clr}
+use Rattle.node_rules.specs.Datagrams.{plain_clr, clr_by_line, clr_by_lines, htcp_clr, icp_comes, tst_refused, htcp_comes, datagram}
 use Rattle.node_rules.specs.Step.{open_step, step_if, step}
 use Rattle.node_rules.proofs.Cases.{branches}
 
@@ -99,9 +102,14 @@ module _ {X : Type 0} (g : Setting) (s : NodeState X) (mark : X) where
   by_copy_fair asker ask now None = not_held_fair asker ask now
   by_copy_fair asker ask now (Some c) = replied _ _
 
+  ask_comes_to_fair : (asker : Option ℕ) (ask : Ask) (now : ℕ) (outside : Bool) → Fair (ask_comes_to g s asker ask now mark outside)
+  unfolding ask_comes_to
+  ask_comes_to_fair asker ask now true = replied _ _
+  ask_comes_to_fair asker ask now false = by_copy_fair asker ask now _
+
   ask_comes_fair : (asker : Option ℕ) (ask : Ask) (now : ℕ) → Fair (ask_comes g s asker ask now mark)
   unfolding ask_comes
-  ask_comes_fair asker ask now = by_copy_fair asker ask now _
+  ask_comes_fair asker ask now = ask_comes_to_fair asker ask now _
 
   use_answer_fair : (p : Pending X) (stamp asked : ℕ) (answer : AnswerText) (tag : X) (now : ℕ) → Fair (use_answer g s p stamp asked answer tag now)
   unfolding use_answer
@@ -194,10 +202,15 @@ module _ {X : Type 0} (g : Setting) (s : NodeState X) (mark : X) where
   unfolding purge
   purge_fair from trans desired key n = if_desired_fair _ desired from _
 
-  numbered_clr_fair : (from : Address) (trans : ℕ) (desired : Bool) (o : Option (List ℕ × ℕ)) → Fair (numbered_clr s from trans desired o)
-  unfolding numbered_clr
-  numbered_clr_fair from trans desired None = if_desired_fair _ desired from _
-  numbered_clr_fair from trans desired (Some x) = purge_fair from trans desired x.0 x.1
+  rebase_fair : (from : Address) (trans : ℕ) (desired : Bool) (n : ℕ) → Fair (rebase s from trans desired n)
+  unfolding rebase
+  rebase_fair from trans desired n = if_desired_fair _ desired from _
+
+  raising_clr_fair : (from : Address) (trans : ℕ) (desired : Bool) (o : Option Raise) → Fair (raising_clr s from trans desired o)
+  unfolding raising_clr
+  raising_clr_fair from trans desired None = if_desired_fair _ desired from _
+  raising_clr_fair from trans desired (Some (Floor key n)) = purge_fair from trans desired key n
+  raising_clr_fair from trans desired (Some (Base n)) = rebase_fair from trans desired n
 
   plain_clr_fair : (from : Address) (trans : ℕ) (desired : Bool) (key : Option (List ℕ)) → Fair (plain_clr g s from trans desired key)
   unfolding plain_clr
@@ -209,8 +222,15 @@ module _ {X : Type 0} (g : Setting) (s : NodeState X) (mark : X) where
       Fair (clr_by_line g s from trans desired key line)
   unfolding clr_by_line
   clr_by_line_fair from trans desired key (Ok None) = plain_clr_fair from trans desired key
-  clr_by_line_fair from trans desired key (Ok (Some n)) = numbered_clr_fair from trans desired _
+  clr_by_line_fair from trans desired key (Ok (Some n)) = raising_clr_fair from trans desired _
   clr_by_line_fair from trans desired key (Err fault) = if_desired_fair _ desired from _
+
+  clr_by_lines_fair : (from : Address) (trans : ℕ) (desired : Bool) (key : Option (List ℕ)) (number base : Result (Option ℕ) HtcpFault) →
+      Fair (clr_by_lines g s from trans desired key number base)
+  unfolding clr_by_lines
+  clr_by_lines_fair from trans desired key number (Ok None) = clr_by_line_fair from trans desired key number
+  clr_by_lines_fair from trans desired key number (Ok (Some n)) = raising_clr_fair from trans desired _
+  clr_by_lines_fair from trans desired key number (Err fault) = if_desired_fair _ desired from _
 
   icp_comes_fair : (from : Address) (m : Icp) (now : ℕ) (o : IcpOp) → Fair (icp_comes g s from m now mark o)
   unfolding icp_comes icp_query icp_told
@@ -228,7 +248,7 @@ module _ {X : Type 0} (g : Setting) (s : NodeState X) (mark : X) where
   htcp_comes_fair from trans now (content.TstAsk desired spec) = if_desired_fair _ desired from _
   htcp_comes_fair from trans now (content.TstHit detail) = told_to_fair _ from _ now _
   htcp_comes_fair from trans now (content.TstMiss cache) = told_to_fair _ from _ now _
-  htcp_comes_fair from trans now (content.ClrAsk desired reason spec) = clr_by_line_fair from trans desired _ _
+  htcp_comes_fair from trans now (content.ClrAsk desired reason spec) = clr_by_lines_fair from trans desired _ _ _
   htcp_comes_fair from trans now (content.ClrAnswer code) = replied _ _
   htcp_comes_fair from trans now (content.Other opcode desired) = if_desired_fair _ desired from _
   htcp_comes_fair from trans now (content.Overall opcode code) = tst_refused_fair from trans opcode now

@@ -64,7 +64,8 @@ lesser_least a (Some c) rank is =
     (λ less h. (omega (h, arith), λ b same. omega (h, test_le a c less, same_some c b same, arith)))
     (λ more h. (omega (h, greater a c more, arith), λ b same. omega (h, same_some c b same, arith)))) is
 
-pub least_least : (tracks : List (List Note)) (o : Option ℕ) → least (ranks_of tracks) ≡ o → (rank : ℕ) → ((b : ℕ) → o ≡ Some b → rank ≤ b) → AreAtLeast rank tracks
+pub least_least : (tracks : List (List Note)) (o : Option ℕ) → least (ranks_of tracks) ≡ o → (rank : ℕ) → ((b : ℕ) → o ≡ Some b → rank ≤ b)
+    → AreAtLeast rank tracks
 least_least [] o is rank below = tt
 least_least ([] ∷ tracks) o is rank below = ((λ a none. cc), least_least tracks o is rank below)
 least_least ((note ∷ notes) ∷ tracks) o is rank below =

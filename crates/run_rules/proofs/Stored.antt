@@ -1,10 +1,12 @@
--- Which floors are stored after a purge has failed: the test of two tables decides whether they are equal.
-use Rattle.std.proofs.Common.{◌≡◌, ℕ, Bool, true, false, cond, ◌&&◌, List, nat_eq, eqb-true, refl, sym, ◌∙◌, ap, inl, inr, subst, arith}
+-- Which floors are stored after a raise has failed: the test of two tables decides whether they are equal.
+use Rattle.std.proofs.Common.{◌≡◌, ℕ, Bool, true, false, cond, ◌&&◌, List, nat_eq, eqb-true, refl, ◌∙◌, ap, inl, inr, subst, arith}
 use Rattle.std.specs.Prelude.{Decides, bytes_eq}
 use Rattle.std.specs.FinMap.{entries, same_entries_map}
 use Rattle.std.proofs.lemmas.Slice.Eq.{bytes_eq-Decides, slice_eq-Decides}
 use lib.Pointwise.{pointwise}
-use Rattle.floor_rules.specs.Floors.{FloorRows, FloorTable, raised}
+use Rattle.floor_rules.specs.Floors.{FloorRows, FloorTable}
+use Rattle.node_rules.specs.declared.raising.Raise.{Raise}
+use Rattle.node_rules.specs.Raises.{raised_by}
 use Rattle.run_rules.specs.Stored.{is_same_row, are_same, stored_by}
 use Rattle.run_rules.proofs.Lists.{either}
 
@@ -49,11 +51,11 @@ are_same-Decides one other = (
 
 -- Which floors are stored
 
-pub stored_after : (before kept : FloorTable) (key : List ℕ) (n : ℕ) → kept ≡ raised before key n → stored_by before key n kept ≡ raised before key n
-stored_after before kept key n is = ap (λ (b : Bool). cond b (raised before key n) before) ((are_same-Decides kept (raised before key n)).1 is)
+pub stored_after : (before kept : FloorTable) (raise : Raise) → kept ≡ raised_by raise before → stored_by before raise kept ≡ raised_by raise before
+stored_after before kept raise is = ap (λ (b : Bool). cond b (raised_by raise before) before) ((are_same-Decides kept (raised_by raise before)).1 is)
 
-pub stored_before : (before kept : FloorTable) (key : List ℕ) (n : ℕ) → (kept ≡ raised before key n → ⊥) → stored_by before key n kept ≡ before
-stored_before before kept key n other = elim (either (are_same kept (raised before key n))) [
-  | inl same ↦ absurd (other ((are_same-Decides kept (raised before key n)).0 same))
-  | inr not_same ↦ ap (λ (b : Bool). cond b (raised before key n) before) not_same
+pub stored_before : (before kept : FloorTable) (raise : Raise) → (kept ≡ raised_by raise before → ⊥) → stored_by before raise kept ≡ before
+stored_before before kept raise other = elim (either (are_same kept (raised_by raise before))) [
+  | inl same ↦ absurd (other ((are_same-Decides kept (raised_by raise before)).0 same))
+  | inr not_same ↦ ap (λ (b : Bool). cond b (raised_by raise before) before) not_same
 ]

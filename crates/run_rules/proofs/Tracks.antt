@@ -169,6 +169,7 @@ module _ (records : List Record) (entries : List MasterEntry) where
   abbrev tracks : List ℕ → List (List Note)
   tracks ids = map track ids ++ calls_of entries ∷ []
 
+  -- of the tracks the node's own holds its notes, and no other holds any
   node_parts : (id : ℕ) (ids : List ℕ) → Once ids → Sole (is_of_node id) (tracks ids) × (parts (is_of_node id) (tracks ids) ≡ when (has_id id ids) (track id))
   node_parts id [] once = (inr refl, append_nil (filter (is_of_node id) (calls_of entries)) ∙ calls_none id entries)
   node_parts id (i ∷ ids) (first, once) =

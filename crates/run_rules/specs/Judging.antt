@@ -4,7 +4,7 @@ use Rattle.std.specs.Prelude.{◌≡◌, ◌≢◌, ◌⊎◌, ℕ, Bool, true, 
 use Rattle.std.specs.Prelude.{if◌then◌else◌}
 use Rattle.url_key.specs.Key.{IsKey}
 use Rattle.object_store.specs.Listed.{without_all_below}
-use Rattle.floor_rules.specs.Floors.{FloorTable, no_floors, new_base}
+use Rattle.floor_rules.specs.Floors.{FloorTable, no_floors}
 use Rattle.values_tables.specs.Ranges.{is_foreign_id}
 use Rattle.values_tables.specs.declared.plain.Tables.{Tables}
 use Rattle.roster.specs.Lookups.{is_member}
@@ -17,7 +17,9 @@ use Rattle.node_rules.specs.declared.reply.Reply.{Reply}
 use Rattle.node_rules.specs.declared.reply.StepFault.{StepFault}
 use Rattle.node_rules.specs.declared.reply.StepFault.TheVariants as fault
 use Rattle.node_rules.specs.State.{Setting, opened, closed_node, fetch_serial, setting}
-use Rattle.node_rules.specs.Relation.{purge_in}
+use Rattle.node_rules.specs.declared.raising.Raise.{Raise}
+use Rattle.node_rules.specs.Raises.{least_by}
+use Rattle.node_rules.specs.Relation.{raise_in}
 use Rattle.node_rules.specs.Step.{step}
 use Rattle.node_book.specs.declared.book.NodeEntry.{NodeEntry}
 use Rattle.purge_rules.specs.declared.calls.MasterCall.{MasterCall}
@@ -25,7 +27,8 @@ use Rattle.purge_rules.specs.declared.calls.MasterCall.TheVariants as call
 use Rattle.purge_rules.specs.declared.calls.MasterAnswer.{MasterAnswer}
 use Rattle.purge_rules.specs.declared.fault.MasterFault.{MasterFault}
 use Rattle.purge_rules.specs.declared.fault.MasterFault.TheVariants as master_fault
-use Rattle.purge_rules.specs.Members.{members_of}
+use Rattle.purge_rules.specs.declared.nodes.Nodes.{Nodes}
+use Rattle.purge_rules.specs.Needed.{nodes_of}
 use Rattle.purge_rules.specs.Calls.{MasterState, called, is_written, is_due, closing}
 use Rattle.purge_master.specs.declared.book.MasterEntry.{MasterEntry}
 use Rattle.world_rules.specs.World.{reply_in}
@@ -95,25 +98,25 @@ JudgesClosing b id state j =
 
 -- An entry of a node
 
--- The state of a node that closed at this purge, with the floors that are stored. Where the base was to rise, it has
--- dropped the copies below the new base. [Refusal 4]
-abbrev pub left_by : NodeState (Unit {0}) → List ℕ × ℕ → FloorTable → NodeState (Unit {0})
-left_by s x kept = record (closed_node s) {
-  floors = stored_by s.floors x.0 x.1 kept;
+-- The state of a node that closed at this raise, with the floors that are stored. It has dropped the copies that were
+-- to go before the commit. [Refusal 4]
+abbrev pub left_by : NodeState (Unit {0}) → Raise → FloorTable → NodeState (Unit {0})
+left_by s raise kept = record (closed_node s) {
+  floors = stored_by s.floors raise kept;
   copies =
-      without_all_below (new_base s.floors x.0 x.1) s.copies;
+      without_all_below (least_by raise s.floors) s.copies;
 }
 
--- The standing after a step that lacked memory: it changes nothing, but at a purge it may have
+-- The standing after a step that lacked memory: it changes nothing, but at a raise it may have
 -- closed the node. [Record 7]
-abbrev pub wanting : NodeState (Unit {0}) → Option (List ℕ × ℕ) → Bool → FloorTable → Standing
-wanting s (Some x) true kept = Shut (left_by s x kept)
+abbrev pub wanting : NodeState (Unit {0}) → Option Raise → Bool → FloorTable → Standing
+wanting s (Some raise) true kept = Shut (left_by s raise kept)
 wanting s _ _ kept = Open s
 
--- The standing after a step whose floor store failed: that comes only at a purge, and closes the
+-- The standing after a step whose floor store failed: that comes only at a raise, and closes the
 -- node.
-abbrev pub failing : NodeState (Unit {0}) → Option (List ℕ × ℕ) → FloorTable → Result Standing Cause
-failing s (Some x) kept = Ok (Shut (left_by s x kept))
+abbrev pub failing : NodeState (Unit {0}) → Option Raise → FloorTable → Result Standing Cause
+failing s (Some raise) kept = Ok (Shut (left_by s raise kept))
 failing s None kept = Err OtherReply
 
 -- whether a fetch is an origin read
@@ -150,8 +153,8 @@ StepsBy g s e r =
 -- an open node's entry with this outcome, and the node's standing after it or the flaw [Record 7]
 abbrev pub OpenStepsBy : Setting → NodeState (Unit {0}) → NodeEntry → Bool → FloorTable →
     Result (Reply (Unit {0})) StepFault → Result Standing Cause → Type 0
-OpenStepsBy g s e is_closed kept (Err fault.NoMemory) r = r ≡ Ok (wanting s (purge_in g e.event) is_closed kept)
-OpenStepsBy g s e is_closed kept (Err fault.StoreFault) r = r ≡ failing s (purge_in g e.event) kept
+OpenStepsBy g s e is_closed kept (Err fault.NoMemory) r = r ≡ Ok (wanting s (raise_in g e.event) is_closed kept)
+OpenStepsBy g s e is_closed kept (Err fault.StoreFault) r = r ≡ failing s (raise_in g e.event) kept
 OpenStepsBy g s e is_closed kept (Err f) r = StepsBy g s e r
 OpenStepsBy g s e is_closed kept (Ok reply) r = (Reaches s e.event × StepsBy g s e r)
     ⊎ ((Reaches s e.event → ⊥) × (r ≡ Err OtherReply))
@@ -208,21 +211,22 @@ left_wanting m true true = closing m
 left_wanting m _ _ = m
 
 -- the master's call may have this answer and lead to this state [Record 6, Record 8]
-abbrev pub CallsBy : List ℕ → MasterState → MasterEntry → Bool → Result MasterAnswer MasterFault → MasterState → Type 0
-CallsBy members m e is_closed (Err master_fault.NoMemory) next =
-    (m.closed ≡ false) × ((is_written members m.purges e.call || is_due e.call) ≡ true)
-    × (next ≡ left_wanting m (is_written members m.purges e.call) is_closed)
-CallsBy members m e is_closed (Err master_fault.StoreFault) next = (m.closed ≡ false)
-    × (is_written members m.purges e.call ≡ true) × (next ≡ closing m)
-CallsBy members m e is_closed answer next = called members m e.call ≡ record { state = next; outcome = answer }
+abbrev pub CallsBy : Nodes → MasterState → MasterEntry → Bool → Result MasterAnswer MasterFault → MasterState → Type 0
+CallsBy nodes m e is_closed (Err master_fault.NoMemory) next =
+    (m.closed ≡ false) × ((is_written nodes m.purges e.call || is_due e.call) ≡ true)
+    × (next ≡ left_wanting m (is_written nodes m.purges e.call) is_closed)
+CallsBy nodes m e is_closed (Err master_fault.StoreFault) next = (m.closed ≡ false)
+    × (is_written nodes m.purges e.call ≡ true) × (next ≡ closing m)
+CallsBy nodes m e is_closed answer next = called nodes m e.call ≡ record { state = next; outcome = answer }
 
 -- the same, with the answer of the entry
 abbrev pub CallsSo : Tables → MasterState → MasterEntry → Bool → MasterState → Type 0
-CallsSo roster m e is_closed next = CallsBy (members_of roster) m e is_closed e.answer next
+CallsSo roster m e is_closed next = CallsBy (nodes_of roster) m e is_closed e.answer next
 
 -- the board after a call
 abbrev pub after_call : Tables → Board → MasterEntry → MasterState → Board
-after_call roster b e m = with_network (with_master b m) (with_clears roster b.network e.call e.answer)
+after_call roster b e m = with_network (with_master b m)
+    (with_clears roster m.purges.admissions b.network e.call e.answer)
 
 -- a call that issues a purge has the key of a URL
 abbrev pub IsOfKey : MasterCall → Type 0

@@ -19,7 +19,7 @@ use Rattle.purge_rules.specs.declared.calls.MasterCall.TheVariants as call
 use Rattle.purge_rules.specs.declared.calls.MasterAnswer.{MasterAnswer}
 use Rattle.purge_rules.specs.declared.calls.MasterAnswer.TheVariants as answer
 use Rattle.purge_rules.specs.declared.fault.MasterFault.{MasterFault}
-use Rattle.purge_rules.specs.Members.{members_of}
+use Rattle.purge_rules.specs.Needed.{nodes_of}
 use Rattle.purge_rules.specs.Calls.{MasterState, Calls as MasterCalls}
 use Rattle.purge_rules.specs.Calls as master
 use Rattle.purge_rules.specs.Purges.{no_purges}
@@ -27,7 +27,7 @@ use Rattle.purge_master.specs.declared.book.MasterEntry.{MasterEntry}
 use Rattle.world_rules.specs.declared.event.WorldEvent.{WorldEvent}
 use Rattle.world_rules.specs.declared.event.WorldEvent.TheVariants as world
 use Rattle.world_rules.specs.World.{World, Datagram, new_world, item, node_at}
-use Rattle.world_rules.specs.Consequence.{Seen, Replied, Issued, Reported, Nothing, NodeSteps as WorldSteps, consequence, with_clock}
+use Rattle.world_rules.specs.Consequence.{Seen, Replied, Issued, Admitted, Reported, Nothing, NodeSteps as WorldSteps, consequence, with_clock}
 use Rattle.world_rules.specs.Run.{Step, Run}
 use Rattle.world_rules.specs.Asked.{moment}
 use Rattle.run_rules.specs.Notes.{Note, Opens, Steps, Closes, Calls, notes_of_all, calls_of, is_of, place_in}
@@ -120,6 +120,8 @@ ClosesSo p id state steps q = (steps ≡ []) × (q ≡ p) × IsKept (unmarked (n
 abbrev pub AnswersSo : Tables → Progress → MasterCall → MasterAnswer → List Step → Type 0
 AnswersSo roster p (call.Issue key) (answer.Issue number) steps = steps ≡ event_step (world.Issue key) (Issued number)
     ∷ []
+AnswersSo roster p (call.Admit id) (answer.Admit number) steps = steps ≡ event_step (world.Admit id) (Admitted number)
+    ∷ []
 AnswersSo roster p (call.Acknowledge id trans code) (answer.Acknowledge finished) steps =
     (number : ℕ) × (d : Datagram) × (status : Status) × (item p.world.datagrams number ≡ Some d)
     × IsAnswerOf roster id trans code d
@@ -138,7 +140,7 @@ CallsIn roster p c (Err f) steps = steps ≡ []
 -- master, stand for no event.
 abbrev pub CallsSo : Tables → Progress → MasterEntry → List Step → Progress → Type 0
 CallsSo roster p e steps q =
-    (next : MasterState) × MasterCalls (members_of roster) p.master e.call e.answer next
+    (next : MasterState) × MasterCalls (nodes_of roster) p.master e.call e.answer next
     × CallsIn roster p e.call e.answer steps × Goes roster p steps next q
 
 -- a note stands for these events of the world, which lead from p to q

@@ -19,6 +19,8 @@ use Rattle.node_rules.specs.declared.reply.Begin.TheVariants as begin
 use Rattle.node_rules.specs.declared.reply.Reply.{Reply}
 use Rattle.node_rules.specs.State.{serial_of}
 use Rattle.node_rules.specs.Tags.{retag_served}
+use Rattle.purge_rules.specs.declared.purges.Admission.{Admission}
+use Rattle.purge_rules.specs.Clear.{base_clear}
 use Rattle.purge_rules.specs.declared.calls.MasterCall.{MasterCall}
 use Rattle.purge_rules.specs.declared.calls.MasterCall.TheVariants as call
 use Rattle.purge_rules.specs.declared.calls.MasterAnswer.{MasterAnswer}
@@ -27,7 +29,7 @@ use Rattle.purge_rules.specs.declared.fault.MasterFault.{MasterFault}
 use Rattle.node_rules.specs.Messages.{protocol_of, clear_answer}
 use Rattle.node_rules.specs.Spelled.{IsSpelled}
 use Rattle.world_rules.specs.World.{Datagram, datagrams_from, answer_of}
-use Rattle.world_rules.specs.Consequence.{clears_of}
+use Rattle.world_rules.specs.Consequence.{clear_to, clears_of}
 
 -- a request that a member sent to a member
 pub record SentAsk : Type 0 where
@@ -116,17 +118,19 @@ with_reply roster n id e reply = record {
 abbrev pub without_waiting : Network → ℕ → Network
 without_waiting n id = record n { waiting = filter (λ w. not (w.node == id)) n.waiting }
 
--- What an entry of the master sends: the CLR of a new purge to each member. What it sends again was
--- sent before.
+-- What an entry of the master sends: the CLR of a new purge to each member that it needs, that of an
+-- admission to the admitted member. What it sends again was sent before.
 
--- the CLRs that a call sends: those of a purge that it issued
-abbrev pub clears_by : Tables → MasterCall → Result MasterAnswer MasterFault → List Datagram
-clears_by roster (call.Issue key) (Ok (answer.Issue number)) = clears_of roster number key
-clears_by roster _ _ = []
+-- the CLRs that a call sends, after these admissions: those of a number that it gave
+abbrev pub clears_by : Tables → List Admission → MasterCall → Result MasterAnswer MasterFault → List Datagram
+clears_by roster admissions (call.Issue key) (Ok (answer.Issue number)) = clears_of roster admissions number key
+clears_by roster admissions (call.Admit id) (Ok (answer.Admit number)) =
+    clear_to roster (Some (base_clear number)) (member_of roster id)
+clears_by roster admissions _ _ = []
 
--- the network after a call of the master
-abbrev pub with_clears : Tables → Network → MasterCall → Result MasterAnswer MasterFault → Network
-with_clears roster n c a = record n { datagrams = n.datagrams ++ clears_by roster c a }
+-- the network after a call of the master, after these admissions
+abbrev pub with_clears : Tables → List Admission → Network → MasterCall → Result MasterAnswer MasterFault → Network
+with_clears roster admissions n c a = record n { datagrams = n.datagrams ++ clears_by roster admissions c a }
 
 -- Whether what an entry received was sent
 

@@ -18,9 +18,10 @@ fn is_reading(call: &MasterCall) -> bool {
 /// Whether one of these calls acknowledges the purge of this number for this member.
 fn is_acknowledged(entries: &[MasterEntry], of: u8, number: u32) -> bool {
     for entry in entries {
-        if matches!(&entry.call, MasterCall::Acknowledge { member, trans, .. } if *member == of && *trans == number)
-        {
-            return true;
+        if let MasterCall::Acknowledge { member, trans, .. } = &entry.call {
+            if *member == of && *trans == number {
+                return true;
+            }
         }
     }
     false
@@ -90,7 +91,7 @@ fn wanted_of_number(entry: &MasterEntry) -> Wanted {
 /// that gets done, the member that it was of is missing then.
 fn wanted_of_subject(entries: &[MasterEntry], at: usize, call: &MasterCall) -> Option<Wanted> {
     match call {
-        MasterCall::Issue(_) => Some(Wanted::AFlaw),
+        MasterCall::Issue(_) | MasterCall::Admit(_) => Some(Wanted::AFlaw),
         MasterCall::Acknowledge { .. } => {
             let is_needed = !is_repeated(entries, at) && is_done_from(entries, at);
             Some(Wanted::where_it_may_be(!is_needed))

@@ -3,7 +3,7 @@ use http_messages::{Answer, Body, Fields};
 use icp_wire::IcpOp;
 use node_bytes::encode;
 use node_rules::{Event, Message, Sent, fits};
-use purge_rules::{MasterCall, clear};
+use purge_rules::{MasterCall, base_clear, clear};
 use roster::Address;
 use std::alloc::Global;
 use std::test::Fail;
@@ -45,6 +45,8 @@ pub(crate) enum Met {
     Icp(u16, IcpOp, u32, Url),
     /// The CLR of this purge comes from the master.
     Clear(u32, Url),
+    /// The CLR of an admission of this number comes from the master.
+    Base(u32),
 }
 
 /// What the master is called for.
@@ -52,11 +54,15 @@ pub(crate) enum Met {
 pub(crate) enum Called {
     /// A purge is issued.
     Issue(Url),
-    /// This node acknowledges purge 1 with this code.
+    /// This node is admitted.
+    Admit(u8),
+    /// This node acknowledges number 1 with this code.
     Acknowledge(u8, u8),
+    /// This node acknowledges this number with code 2.
+    Obeys(u8, u32),
     /// What is to be sent again is listed.
     Due,
-    /// The status of a purge is asked.
+    /// The status of a number is asked.
     Status(u32),
 }
 
@@ -156,16 +162,26 @@ pub(crate) fn event_of(alloc: Global, met: Met) -> Result<Event<()>, Fail> {
             datagram(alloc, port, Message::Icp(icp_of(alloc, op, number, url)?))
         }
         Met::Clear(number, url) => datagram(alloc, MASTER.port, clear_of(alloc, number, url)?),
+        Met::Base(number) => {
+            let message = Message::Htcp(base_clear(alloc, number)?);
+            datagram(alloc, MASTER.port, message)
+        }
     }
 }
 
 pub(crate) fn call_of(alloc: Global, called: Called) -> Result<MasterCall, Fail> {
     Ok(match called {
         Called::Issue(url) => MasterCall::Issue(key_of(alloc, url)?),
+        Called::Admit(id) => MasterCall::Admit(id),
         Called::Acknowledge(member, code) => MasterCall::Acknowledge {
             member,
             trans: 1,
             code,
+        },
+        Called::Obeys(member, trans) => MasterCall::Acknowledge {
+            member,
+            trans,
+            code: 2,
         },
         Called::Due => MasterCall::Due,
         Called::Status(number) => MasterCall::Status(number),

@@ -20,8 +20,10 @@ pub(crate) enum Said {
     Status(u16),
     /// A bare status is served to this member, which asks.
     StatusTo(u8, u16),
-    /// The CLR of purge 1 is answered: no copy was held.
+    /// The CLR of number 1 is answered: no copy was held.
     Acknowledged,
+    /// The same of this number.
+    Obeyed(u32),
     /// The step has this fault.
     Fault(StepFault),
 }
@@ -31,9 +33,15 @@ pub(crate) enum Said {
 pub(crate) enum Told {
     /// The purge that was issued has this number.
     Issued(u32),
-    /// This purge is done by it.
+    /// The admission has this number.
+    Admitted(u32),
+    /// This number is done by it.
     Done(u32),
-    /// There was no such purge.
+    /// None is done by it.
+    NoneDone,
+    /// The number is done.
+    IsDone,
+    /// There was no such number.
     Unknown,
     /// The call has this fault.
     Fault(MasterFault),
@@ -95,11 +103,11 @@ fn status_of(alloc: Global, asker: Option<u8>, status: u16) -> Reply<()> {
     reply_of(Some(serve), Vec::new(alloc))
 }
 
-/// The CLR of purge 1 is answered: no copy was held.
-fn acknowledged(alloc: Global) -> Result<Reply<()>, Fail> {
+/// The CLR of this number is answered: no copy was held.
+fn acknowledged(alloc: Global, number: u32) -> Result<Reply<()>, Fail> {
     let message = Message::Htcp(Htcp {
         minor: 0,
-        trans: 1,
+        trans: number,
         content: Content::ClrAnswer { code: 2 },
     });
     if !fits(&message) {
@@ -117,7 +125,8 @@ fn outcome_of(alloc: Global, said: Said) -> Result<Result<Reply<()>, StepFault>,
         Said::Nothing => Ok(reply_of(None, Vec::new(alloc))),
         Said::Status(status) => Ok(status_of(alloc, None, status)),
         Said::StatusTo(member, status) => Ok(status_of(alloc, Some(member), status)),
-        Said::Acknowledged => Ok(acknowledged(alloc)?),
+        Said::Acknowledged => Ok(acknowledged(alloc, 1)?),
+        Said::Obeyed(number) => Ok(acknowledged(alloc, number)?),
         Said::Fault(fault) => Err(fault),
     })
 }
@@ -165,7 +174,10 @@ pub(crate) fn records_of(alloc: Global, shifts: &[Shift]) -> Result<Vec<Record>,
 fn answer_of(told: Told) -> Result<MasterAnswer, MasterFault> {
     match told {
         Told::Issued(number) => Ok(MasterAnswer::Issue(number)),
+        Told::Admitted(number) => Ok(MasterAnswer::Admit(number)),
         Told::Done(number) => Ok(MasterAnswer::Acknowledge(Some(number))),
+        Told::NoneDone => Ok(MasterAnswer::Acknowledge(None)),
+        Told::IsDone => Ok(MasterAnswer::Status(Status::Done)),
         Told::Unknown => Ok(MasterAnswer::Status(Status::Unknown)),
         Told::Fault(fault) => Err(fault),
     }

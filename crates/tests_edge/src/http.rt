@@ -25,7 +25,7 @@ pub(crate) const OF_MEMBER_2: &[u8] = b"GET /a HTTP/1.1\r\nHost: o\r\nX-Purge-Me
 /// Bad asks.
 const NO_HOST: &[u8] = b"GET http://o/a HTTP/1.1\r\n\r\n";
 
-const NO_KEY: &[u8] = b"GET /a HTTP/1.1\r\nHost: u@o\r\n\r\n";
+const NO_KEY: &[u8] = b"GET http://u@o/a HTTP/1.1\r\nHost: o\r\n\r\n";
 
 const WITH_A_BODY: &[u8] = b"GET /a HTTP/1.1\r\nHost: o\r\nContent-Length: 1\r\n\r\n";
 

@@ -373,7 +373,7 @@ const STAMPS: [Row; 10] = [
 ];
 
 /// The fields that are kept.
-const KEPT: [Row; 14] = [
+const KEPT: [Row; 19] = [
     (b"\r\n", Saying::Kept(b"")),
     (
         b"Vary: a\r\nETag: \t\"1\" \r\nvary: b\r\n\r\n",
@@ -424,6 +424,27 @@ const KEPT: [Row; 14] = [
         Saying::Kept(b"tea=1;www-authenticate=2;ages=3;"),
     ),
     (b"x:\r\ny: \xff\r\n\r\n", Saying::Kept(b"x=;y=\xff;")),
+    // Fields by which storing is judged, and `connection` (RFC 9111, section 3).
+    (
+        b"x: 1\r\nconnection: Cache-Control\r\ncache-control: private\r\n\r\n",
+        Saying::Kept(b"cache-control=no-store;x=1;"),
+    ),
+    (
+        b"connection: close , EXPIRES\r\nexpires: 0\r\ncache-control: max-age=60\r\n\r\n",
+        Saying::Kept(b"cache-control=no-store;cache-control=max-age=60;"),
+    ),
+    (
+        b"connection: x\r\nconnection: vary,expires\r\nvary: a\r\n\r\n",
+        Saying::Kept(b"cache-control=no-store;"),
+    ),
+    (
+        b"connection: vary\r\n\r\n",
+        Saying::Kept(b"cache-control=no-store;"),
+    ),
+    (
+        b"connection: cache-control x\r\nconnections: vary\r\ncache-control: private\r\n\r\n",
+        Saying::Kept(b"connections=vary;cache-control=private;"),
+    ),
 ];
 
 /// The host, the credentials and the member of an ask.
@@ -617,6 +638,30 @@ fn how_many_fields_are_kept(rt: HostRuntime) {
     for (count, length, kept) in &MOST {
         let holds = is_kept(&rt, &section_of(&rt, *count, *length), *kept);
         assert!(rt; holds, "{count} {length}");
+    }
+}
+
+/// How many octets the value of the only kept field has, and how many fields a response then has,
+/// if they are few enough beside `no-store`.
+const MOST_BESIDE_MARK: [(usize, Option<usize>); 2] = [(15_970, Some(2)), (15_971, None)];
+
+/// Such a section.
+fn marked_section(rt: &(impl Abort + AllocGlobal), length: usize) -> Vec<u8> {
+    let mut section = Vec::new(rt.alloc());
+    section
+        .extend_from_slice(b"connection: vary\r\n")
+        .expect(rt, "memory");
+    section
+        .extend_from_slice(&section_of(rt, 0, length))
+        .expect(rt, "memory");
+    section
+}
+
+#[test]
+fn how_many_fields_are_kept_beside_no_store(rt: HostRuntime) {
+    for (length, kept) in &MOST_BESIDE_MARK {
+        let holds = is_kept(&rt, &marked_section(&rt, *length), *kept);
+        assert!(rt; holds, "{length}");
     }
 }
 

@@ -2,8 +2,9 @@
 //! that fail.
 use crate::made::{Flags, LENGTHS, Parts, Pieces, is_answer, is_ask};
 use http_messages::{Answer, Ask, FetchFault};
-use http_reading::{read_answer, read_ask};
+use http_reading::{lower_version, read_answer, read_ask};
 use std::alloc::Global;
+use std::process::Abort;
 use url_key::KeyFault;
 
 fn ask_of(alloc: Global, text: &[u8], length: usize) -> Result<Ask, FetchFault> {
@@ -47,7 +48,7 @@ const FAULTS_OF_ASKS: [(&[u8], FetchFault); 16] = [
         FetchFault::BadTarget(KeyFault::NotHttp),
     ),
     (
-        b"GET /a HTTP/1.1\r\nhost: u@o\r\n\r\n",
+        b"GET http://u@o/a HTTP/1.1\r\nhost: o\r\n\r\n",
         FetchFault::BadTarget(KeyFault::UserInfo),
     ),
     (
@@ -64,6 +65,196 @@ const FAULTS_OF_ASKS: [(&[u8], FetchFault); 16] = [
     ),
 ];
 
+/// Values of a `host` field, and whether a request for a path may have it: it is an authority (RFC
+/// 9110, section 7.2).
+const HOSTS: [(&[u8], bool); 36] = [
+    (b"o", true),
+    (b"O:80", true),
+    (b"o:", true),
+    (b"o:080", true),
+    (b"o.", true),
+    (b"1.2.3.4:5", true),
+    (b"-._~!$&'()*+,;=", true),
+    (b"[::1]", true),
+    (b"[::1]:81", true),
+    (b"[v1.a:b]", true),
+    // A name may be empty, and may have encoded octets. No http URL has such a host.
+    (b"", true),
+    (b"o%41", true),
+    // Not ports, but digits.
+    (b"o:0", true),
+    (b"o:65616", true),
+    (b"o/b", false),
+    (b"o?x", false),
+    (b"o#x", false),
+    (b"o/q/x?y=", false),
+    (b"o\\a", false),
+    (b"u@o", false),
+    (b"o o", false),
+    (b"o\to", false),
+    (b"o, o", false),
+    (b"\"o\"", false),
+    (b"o|", false),
+    (b"o^", false),
+    (b"o`", false),
+    (b"\xc3\xb6", false),
+    (b"o%4", false),
+    (b"o%zz", false),
+    (b"o:8x", false),
+    (b"o:80:80", false),
+    (b"[::1", false),
+    (b"[]", false),
+    (b"[::1]x", false),
+    (b"a[b]", false),
+];
+
+/// The text of a request for `/a` with this `host` field.
+fn with_host(rt: &(impl Abort + AllocGlobal), host: &[u8]) -> Vec<u8> {
+    let mut text = Vec::new(rt.alloc());
+    text.extend_from_slice(b"GET /a HTTP/1.1\r\nhost: ")
+        .expect(rt, "memory");
+    text.extend_from_slice(host).expect(rt, "memory");
+    text.extend_from_slice(b"\r\n\r\n").expect(rt, "memory");
+    text
+}
+
+#[test]
+fn hosts_that_are_authorities(rt: HostRuntime) {
+    for (host, may_be) in &HOSTS {
+        let fault = ask_of(rt.alloc(), &with_host(&rt, host), 9).err();
+        let is_bad = fault == Some(FetchFault::BadHead);
+        assert!(rt; is_bad != *may_be, "{host:?}");
+    }
+}
+
+/// Targets of requests to the host `o`, and whether a URI has their octets (RFC 3986, sections 2,
+/// 3.3 and 3.4).
+const TARGETS: [(&[u8], bool); 25] = [
+    (b"/-._~!$&'()*+,;=:@/%2f?a=b/?%7C", true),
+    (b"http://o:/a", true),
+    (b"http://o:80/a", true),
+    (b"/%00", true),
+    (b"/%Ab", true),
+    (b"/a\"", false),
+    (b"/a[", false),
+    (b"/a]", false),
+    (b"/a\\", false),
+    (b"/a^", false),
+    (b"/a{", false),
+    (b"/a|", false),
+    (b"/a}", false),
+    (b"/a<", false),
+    (b"/a>", false),
+    (b"/a`", false),
+    (b"/a?[", false),
+    (b"/a?\"", false),
+    (b"/%zz", false),
+    (b"/%", false),
+    (b"/%4", false),
+    (b"/%4g", false),
+    (b"/a?%g4", false),
+    (b"http://o/|", false),
+    (b"http://a[b]/", false),
+];
+
+/// The text of a request for this target to the host `o`.
+fn with_target(rt: &(impl Abort + AllocGlobal), target: &[u8]) -> Vec<u8> {
+    let mut text = Vec::new(rt.alloc());
+    text.extend_from_slice(b"GET ").expect(rt, "memory");
+    text.extend_from_slice(target).expect(rt, "memory");
+    text.extend_from_slice(b" HTTP/1.1\r\nhost: o\r\n\r\n")
+        .expect(rt, "memory");
+    text
+}
+
+#[test]
+fn targets_that_are_uris(rt: HostRuntime) {
+    for (target, may_be) in &TARGETS {
+        let fault = ask_of(rt.alloc(), &with_target(&rt, target), 9).err();
+        let expected = if *may_be {
+            None
+        } else {
+            Some(FetchFault::BadTarget(KeyFault::NotUri))
+        };
+        assert!(rt; fault == expected, "{target:?}");
+    }
+}
+
+/// How many octets a target or the value of a field has, and the fault of a request with that
+/// target, and of one with that field.
+const LONG: [(usize, Option<FetchFault>, Option<FetchFault>); 4] = [
+    (1015, None, None),
+    (1018, Some(FetchFault::BadTarget(KeyFault::TooLong)), None),
+    (16_000, Some(FetchFault::BadTarget(KeyFault::TooLong)), None),
+    (
+        16_400,
+        Some(FetchFault::BadTarget(KeyFault::TooLong)),
+        Some(FetchFault::HeadTooLong),
+    ),
+];
+
+/// The text of a request, in which a slash and letters, so many octets, stand between this front
+/// and this end.
+fn with_octets(
+    rt: &(impl Abort + AllocGlobal),
+    front: &[u8],
+    length: usize,
+    end: &[u8],
+) -> Vec<u8> {
+    let mut text = front.to_vec(rt.alloc()).expect(rt, "memory");
+    text.push(b'/').expect(rt, "memory");
+    text.resize(front.len().saturating_add(length), b'x')
+        .expect(rt, "memory");
+    text.extend_from_slice(end).expect(rt, "memory");
+    text
+}
+
+#[test]
+fn targets_that_are_long(rt: HostRuntime) {
+    for (length, fault, _) in &LONG {
+        let text = with_octets(&rt, b"GET ", *length, b" HTTP/1.1\r\nhost: o\r\n\r\n");
+        let found = ask_of(rt.alloc(), &text, 512).err();
+        assert!(rt; found == *fault, "{length}");
+    }
+}
+
+#[test]
+fn fields_that_are_long(rt: HostRuntime) {
+    let front = b"GET /a HTTP/1.1\r\nhost: o\r\nx: ".as_slice();
+    for (length, _, fault) in &LONG {
+        let text = with_octets(&rt, front, *length, b"\r\n\r\n");
+        let found = ask_of(rt.alloc(), &text, 512).err();
+        assert!(rt; found == *fault, "{length}");
+    }
+}
+
+/// Requests, and what is read in their place: a later minor version of HTTP/1 counts as 1 (RFC
+/// 9110, section 6.2).
+const VERSIONS: [(&[u8], &[u8]); 10] = [
+    (b"GET / HTTP/1.2\r\n", b"GET / HTTP/1.1\r\n"),
+    (b"\r\n\nGET / HTTP/1.9\n", b"\r\n\nGET / HTTP/1.1\n"),
+    (
+        b"GET / HTTP/1.2\r\nx: HTTP/1.2\r\n\r\n",
+        b"GET / HTTP/1.1\r\nx: HTTP/1.2\r\n\r\n",
+    ),
+    (b"GET / HTTP/1.0\r\n", b"GET / HTTP/1.0\r\n"),
+    (b"GET / HTTP/1.1\r\n", b"GET / HTTP/1.1\r\n"),
+    (b"GET / HTTP/1.12\r\n", b"GET / HTTP/1.12\r\n"),
+    (b"GET / HTTP/2.2\r\n", b"GET / HTTP/2.2\r\n"),
+    (b"GET /HTTP/1.2\r\n", b"GET /HTTP/1.2\r\n"),
+    (b"GET / http/1.2\r\n", b"GET / http/1.2\r\n"),
+    (b"", b""),
+];
+
+#[test]
+fn later_versions_count_as_1(rt: HostRuntime) {
+    for (text, expected) in &VERSIONS {
+        let mut octets = text.to_vec(rt.alloc()).expect(&rt, "memory");
+        lower_version(octets.as_mut_slice());
+        assert!(rt; octets.as_slice() == *expected, "{text:?}");
+    }
+}
+
 #[test]
 fn faults_of_asks(rt: HostRuntime) {
     for (text, expected) in &FAULTS_OF_ASKS {
@@ -75,7 +266,7 @@ fn faults_of_asks(rt: HostRuntime) {
 }
 
 /// Answers that are refused.
-const FAULTS_OF_ANSWERS: [(&[u8], FetchFault); 15] = [
+const FAULTS_OF_ANSWERS: [(&[u8], FetchFault); 17] = [
     (b"", FetchFault::EndOfInput),
     (b"HTTP/1.1 200 \r\n", FetchFault::EndOfInput),
     (b"HTTP/1.1 101 \r\n\r\n", FetchFault::BadHead),
@@ -118,6 +309,15 @@ const FAULTS_OF_ANSWERS: [(&[u8], FetchFault); 15] = [
         FetchFault::EndOfInput,
     ),
     (b"HTTP/1.1 200 \r\na: b\r\n c\r\n\r\n", FetchFault::BadHead),
+    // HTTP/1.0 knows no transfer coding (RFC 9112, section 6.1).
+    (
+        b"HTTP/1.0 200 \r\ntransfer-encoding: chunked\r\n\r\n3\r\none\r\n0\r\n\r\n",
+        FetchFault::BadBody,
+    ),
+    (
+        b"HTTP/1.0 200 \r\ntransfer-encoding: chunked\r\ncontent-length: 3\r\n\r\none",
+        FetchFault::BadBody,
+    ),
 ];
 
 #[test]
@@ -131,7 +331,17 @@ fn faults_of_answers(rt: HostRuntime) {
 }
 
 /// An ask, and the text of its key and its flags.
-const ASKS: [(&[u8], &[u8], Flags); 6] = [
+const ASKS: [(&[u8], &[u8], Flags); 8] = [
+    (
+        b"GET /a HTTP/1.1\r\nhost: o:\r\n\r\n",
+        b"http://o/a",
+        (false, false, None),
+    ),
+    (
+        b"GET http://o:/a HTTP/1.1\r\nhost:\r\n\r\n",
+        b"http://o/a",
+        (false, false, None),
+    ),
     (
         b"GET /a HTTP/1.1\r\nhost: o\r\n\r\n",
         b"http://o/a",
@@ -175,7 +385,7 @@ fn asks_are_read(rt: HostRuntime) {
 }
 
 /// An answer, and its parts.
-const ANSWERS: [(&[u8], Parts<'static>); 8] = [
+const ANSWERS: [(&[u8], Parts<'static>); 10] = [
     (
         b"HTTP/1.1 200 \r\ntransfer-encoding: Chunked\r\n\r\n3\r\none\r\n0\r\n\r\n",
         (200, &[], None, None, b"one"),
@@ -208,6 +418,15 @@ const ANSWERS: [(&[u8], Parts<'static>); 8] = [
     (
         b"HTTP/1.1 200 \r\nConnection: close, X-A\r\nx-a: 1\r\nX-B: 2\r\nvia: 1.1 n1\r\nx-purge-stamp: 7\r\ncontent-length: 0\r\n\r\n",
         (200, &[(b"x-b", b"2")], None, Some(7), b""),
+    ),
+    // What `connection` says of fields by which storing is judged forbids storing.
+    (
+        b"HTTP/1.1 200 \r\nVary: a\r\ncontent-length: 0\r\nconnection: close, vary\r\n\r\n",
+        (200, &[(b"cache-control", b"no-store")], None, None, b""),
+    ),
+    (
+        b"HTTP/1.0 304 \r\ntransfer-encoding: chunked\r\n\r\n",
+        (304, &[], None, None, b""),
     ),
 ];
 

@@ -1,4 +1,4 @@
-use http_lists::{member_length, members_are_exact, members_of, trim};
+use http_lists::{is_closed, member_length, members_are_exact, members_of, trim};
 use std::process::Abort;
 
 /// Values, and their members with a bar behind each (RFC 9110, sections 5.6.1 and 5.6.4).
@@ -31,6 +31,26 @@ fn how_values_are_cut(rt: HostRuntime) {
         assert!(rt; holds, "{value:?}");
     }
     members_are_exact();
+}
+
+/// Values, and whether each of their quoted strings is closed (RFC 9110, section 5.6.4).
+const QUOTED: [(&[u8], bool); 9] = [
+    (b"", true),
+    (b"a, b", true),
+    (b"a=\"b, c\"", true),
+    (b"\"a\\\"\", b", true),
+    (b"\"", false),
+    (b"a=\"b, no-store", false),
+    (b"\"a\", \"b", false),
+    (b"\"a\\\"", false),
+    (b"\\\"", false),
+];
+
+#[test]
+fn which_values_are_closed(rt: HostRuntime) {
+    for (value, closed) in &QUOTED {
+        assert!(rt; is_closed(value) == *closed, "{value:?}");
+    }
 }
 
 /// Texts, and what is left of them without blanks round them.

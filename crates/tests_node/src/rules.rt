@@ -65,6 +65,7 @@ fn laws_can_be_called() {
     laws::few_asks_wait::<u64>();
     laws::blocks_come_round::<u64>();
     laws::siblings_begin_nothing::<u64>();
+    laws::outside_nodes_serve_nothing::<u64>();
     laws::steps_are_lawful::<u64>();
     laws::nodes_never_look_at_tags::<u64, ()>();
 }

@@ -1,6 +1,6 @@
 //! Worked runs of a node, each a table of events and of what they are answered.
 use floor_rules::{FloorStore, MemoryFloors};
-use htcp_wire::Content;
+use htcp_wire::{Content, Htcp, Specifier};
 use icp_wire::IcpOp;
 use node_bytes::encode;
 use node_core::{Node, OpenFault};
@@ -13,6 +13,7 @@ use std::test::Fail;
 use tests_kit::{
     FOREIGN, ONE, address_at, answer_of, ask_of, clear_of, icp_of, key_of, roster_of, want,
 };
+use values_plain::Octets;
 
 type Tested = Node<u64, MemoryFloors>;
 
@@ -104,6 +105,70 @@ fn purge(rt: &HostRuntime, url: &str, number: u32) -> Result<Event<u64>, Fail> {
     came(rt.alloc(), 4800, Message::Htcp(clear))
 }
 
+/// A SPECIFIER of GET with this URI and these REQ-HDRS.
+fn specifier(alloc: Global, uri: &str, headers: &str) -> Result<Specifier, Fail> {
+    Ok(Specifier {
+        method: Octets::from_slice(alloc, b"GET")?,
+        uri: Octets::from_slice(alloc, uri.as_bytes())?,
+        version: Octets::from_slice(alloc, b"HTTP/1.1")?,
+        request_headers: Octets::from_slice(alloc, headers.as_bytes())?,
+    })
+}
+
+/// An HTCP message from this port, with this TRANS-ID and content.
+fn htcp(rt: &HostRuntime, port: u16, trans: u32, content: Content) -> Result<Event<u64>, Fail> {
+    let message = Htcp {
+        minor: 0,
+        trans,
+        content,
+    };
+    came(rt.alloc(), port, Message::Htcp(message))
+}
+
+/// A CLR for no URL with these REQ-HDRS.
+fn clear(
+    rt: &HostRuntime,
+    port: u16,
+    trans: u32,
+    desired: bool,
+    headers: &str,
+) -> Result<Event<u64>, Fail> {
+    let content = Content::ClrAsk {
+        desired,
+        reason: 0,
+        spec: specifier(rt.alloc(), "", headers)?,
+    };
+    htcp(rt, port, trans, content)
+}
+
+/// A TST of TRANS-ID 7 for a URL.
+fn tst(rt: &HostRuntime, port: u16, desired: bool, url: &str) -> Result<Event<u64>, Fail> {
+    let spec = specifier(rt.alloc(), url, "")?;
+    htcp(rt, port, 7, Content::TstAsk { desired, spec })
+}
+
+/// Member 2 asks for a URL.
+fn member(rt: &HostRuntime, url: &str) -> Result<Event<u64>, Fail> {
+    let ask = ask_of(rt.alloc(), url.as_bytes(), false, Some(2))?;
+    Ok(Event::PeerAsk {
+        asker: 2,
+        ask,
+        now: 0,
+    })
+}
+
+/// Member 2 answers the fetch 33.
+fn member_answer(rt: &HostRuntime, url: &str, stamp: u32) -> Result<Event<u64>, Fail> {
+    Ok(Event::PeerAnswer {
+        serial: 33,
+        peer: 2,
+        key: key_of(rt.alloc(), url.as_bytes())?,
+        answer: answer_of(rt.alloc(), Some(stamp))?,
+        tag: 0,
+        now: 0,
+    })
+}
+
 /// An ICP message of this opcode, under this number, for a URL.
 fn icp(rt: &HostRuntime, port: u16, op: IcpOp, number: u32, url: &str) -> Result<Event<u64>, Fail> {
     let icp = icp_of(rt.alloc(), op, number, url.as_bytes())?;
@@ -123,6 +188,21 @@ enum Happens {
     Origin(u32, &'static str, u64),
     /// Foreign cache 101 answers the fetch 33, for this URL and with this stamp.
     Foreign(&'static str, u32),
+    /// Member 2 asks for this URL.
+    Member(&'static str),
+    /// Member 2 answers the fetch 33, for this URL and with this stamp.
+    Sibling(&'static str, u32),
+    /// A CLR comes from this port, with this TRANS-ID and these REQ-HDRS, and for no URL. It
+    /// desires a response, or does not.
+    Clear(u16, u32, bool, &'static str),
+    /// A TST comes from this port, for this URL. It desires a response, or does not.
+    Tst(u16, bool, &'static str),
+    /// A NOP comes from this port.
+    Nop(u16),
+    /// The fetch of this serial fails.
+    Failed(u32),
+    /// The round of this serial has waited for its time.
+    Expired(u32),
 }
 
 fn event_of(rt: &HostRuntime, happens: Happens) -> Result<Event<u64>, Fail> {
@@ -132,6 +212,13 @@ fn event_of(rt: &HostRuntime, happens: Happens) -> Result<Event<u64>, Fail> {
         Happens::Icp(port, op, number, url) => icp(rt, port, op, number, url),
         Happens::Origin(serial, url, now) => origin(rt, serial, url, now),
         Happens::Foreign(url, stamp) => foreign_answer(rt, url, stamp),
+        Happens::Member(url) => member(rt, url),
+        Happens::Sibling(url, stamp) => member_answer(rt, url, stamp),
+        Happens::Clear(port, trans, desired, headers) => clear(rt, port, trans, desired, headers),
+        Happens::Tst(port, desired, url) => tst(rt, port, desired, url),
+        Happens::Nop(port) => htcp(rt, port, 7, Content::NopAsk { desired: true }),
+        Happens::Failed(serial) => Ok(Event::FetchFailed { serial, now: 0 }),
+        Happens::Expired(serial) => Ok(Event::Expired { serial, now: 0 }),
     }
 }
 
@@ -153,6 +240,7 @@ fn show_sent(text: &mut String, message: &Message) -> Result<(), Fail> {
         Message::Icp(message) => write!(text, " {}", message.op.name())?,
         Message::Htcp(message) => match message.content {
             Content::ClrAnswer { code } => write!(text, " clr {code}")?,
+            Content::Overall { code, .. } => write!(text, " overall {code}")?,
             _ => write!(text, " {}", message.content.name())?,
         },
     }
@@ -398,9 +486,14 @@ fn check_seen(rt: &HostRuntime, node: &Tested, wanted: Seen) -> Result<(), Fail>
 /// Steps of a node, and what is seen of it then.
 type Part = (&'static [(Happens, &'static str)], Seen);
 
-/// These floors, and after each part this is seen.
-fn check_parts(rt: &HostRuntime, floors: MemoryFloors, parts: &[Part]) -> Result<(), Fail> {
-    let mut held = over(rt, roster_of(rt.alloc(), ONE)?, floors)?;
+/// Node 1 of this roster over these floors, and after each part this is seen.
+fn check_parts(
+    rt: &HostRuntime,
+    roster: &str,
+    floors: MemoryFloors,
+    parts: &[Part],
+) -> Result<(), Fail> {
+    let mut held = over(rt, roster_of(rt.alloc(), roster)?, floors)?;
     for (steps, seen) in parts {
         check_open(rt, &mut held.node, steps)?;
         check_seen(rt, &held.node, *seen)?;
@@ -474,7 +567,214 @@ const GREATEST: &[Part] = &[
 
 #[test]
 fn a_full_table_of_floors_makes_the_base(rt: HostRuntime) -> Result<(), Fail> {
-    check_parts(&rt, full(rt.alloc())?, NEW_KEY)?;
-    check_parts(&rt, full(rt.alloc())?, HELD_KEY)?;
-    check_parts(&rt, full_again(rt.alloc())?, GREATEST)
+    check_parts(&rt, ONE, full(rt.alloc())?, NEW_KEY)?;
+    check_parts(&rt, ONE, full(rt.alloc())?, HELD_KEY)?;
+    check_parts(&rt, ONE, full_again(rt.alloc())?, GREATEST)
+}
+
+/// Two members that are siblings by ICP, of which the first joins.
+const JOINING: &str = "default_lifetime = 60
+copies = 1000
+bytes = 1048576
+query_wait = 2000
+
+[master]
+address = \"127.0.0.1\"
+htcp = 4800
+
+[[node]]
+id = 1
+name = \"n1\"
+joins = true
+address = \"127.0.0.1\"
+http = 8101
+icp = 3101
+htcp = 4101
+[[node.peer]]
+id = 2
+role = \"sibling\"
+by = \"icp\"
+
+[[node]]
+id = 2
+name = \"n2\"
+address = \"127.0.0.1\"
+http = 8102
+icp = 3102
+htcp = 4102
+
+[[origin]]
+host = \"o\"
+port = 80
+address = \"127.0.0.1\"
+connect = 8080
+";
+
+/// A node that the master has not admitted serves no one and begins nothing. It tells of no copy,
+/// whoever asks, and follows purges as any other.
+const OUTSIDE: &[(Happens, &str)] = &[
+    (Happens::Ask("http://o/a", 0), " serve 503"),
+    (Happens::Member("http://o/a"), " serve 503"),
+    (Happens::Icp(3102, IcpOp::Query, 7, "http://o/a"), " Denied"),
+    (Happens::Icp(9, IcpOp::Query, 7, "http://o/a"), " Denied"),
+    (Happens::Icp(3102, IcpOp::Query, 7, "a"), " Denied"),
+    (Happens::Tst(4102, true, "http://o/a"), " overall 5"),
+    (Happens::Tst(4102, false, "http://o/a"), ""),
+    (Happens::Tst(9, true, "http://o/a"), " overall 5"),
+    (Happens::Tst(9, false, "http://o/a"), ""),
+    (Happens::Nop(9), " NopAnswer"),
+    (Happens::Icp(3102, IcpOp::Hit, 32, "http://o/a"), ""),
+    (Happens::Origin(33, "http://o/a", 1), " UnknownSerial"),
+    (Happens::Foreign("http://o/a", 9), " UnknownSerial"),
+    (Happens::Sibling("http://o/a", 9), " UnknownSerial"),
+    (Happens::Failed(33), " UnknownSerial"),
+    (Happens::Expired(32), " UnknownSerial"),
+    (Happens::Purge("http://o/a", 1), " clr 2"),
+    (Happens::Clear(4102, 7, true, ""), " clr 2"),
+    (Happens::Clear(9, 7, true, ""), " overall 5"),
+    (Happens::Ask("http://o/b", 0), " serve 503"),
+];
+
+/// An admission that is not the master's, whose number is not its TRANS-ID or is not at least 1,
+/// or that is not told by one good line alone: it is refused and changes nothing.
+const NO_ADMISSIONS: &[(Happens, &str)] = &[
+    (
+        Happens::Clear(4102, 9, true, "X-Purge-Base: 9\r\n"),
+        " overall 5",
+    ),
+    (
+        Happens::Clear(9, 9, true, "X-Purge-Base: 9\r\n"),
+        " overall 5",
+    ),
+    (
+        Happens::Clear(4800, 8, true, "X-Purge-Base: 9\r\n"),
+        " overall 5",
+    ),
+    (
+        Happens::Clear(4800, 0, true, "X-Purge-Base: 0\r\n"),
+        " overall 5",
+    ),
+    (
+        Happens::Clear(4800, 9, true, "X-Purge-Base: 09\r\n"),
+        " overall 5",
+    ),
+    (
+        Happens::Clear(4800, 9, true, "X-Purge-Base: 9\r\nx-purge-base: 9\r\n"),
+        " overall 5",
+    ),
+    (
+        Happens::Clear(4800, 9, true, "X-Purge-Number: 9\r\nX-Purge-Base: 9\r\n"),
+        " overall 5",
+    ),
+    (
+        Happens::Clear(4800, 9, true, "X-Purge-Base: 9\r\nX-Purge-Number: \r\n"),
+        " overall 5",
+    ),
+    (Happens::Clear(4102, 9, false, "X-Purge-Base: 9\r\n"), ""),
+    (Happens::Ask("http://o/a", 0), " serve 503"),
+];
+
+/// The admission, which comes again, and the queries of a node that is admitted.
+const ADMISSION: &[(Happens, &str)] = &[
+    (
+        Happens::Clear(4800, 9, true, "X-Purge-Base: 9\r\n"),
+        " clr 2",
+    ),
+    (Happens::Icp(3102, IcpOp::Query, 7, "http://o/a"), " Miss"),
+    (Happens::Icp(9, IcpOp::Query, 7, "http://o/a"), " Denied"),
+    (Happens::Tst(4102, true, "http://o/a"), " TstMiss"),
+    (Happens::Tst(9, true, "http://o/a"), " overall 5"),
+    (
+        Happens::Clear(4800, 9, true, "x-purge-base: 9\r\n"),
+        " clr 2",
+    ),
+    (
+        Happens::Clear(4800, 5, true, "X-Purge-Base: 5\r\n"),
+        " clr 2",
+    ),
+    (Happens::Clear(4800, 5, false, "X-Purge-Base: 5\r\n"), ""),
+    (Happens::Ask("http://o/a", 0), " Query round 32"),
+];
+
+/// A node that joins, and what is seen of its floors and copies.
+const JOINS: &[Part] = &[
+    (OUTSIDE, (1, 0, [1, 0, 0], 1, 0)),
+    (NO_ADMISSIONS, (1, 0, [1, 0, 0], 1, 0)),
+    (ADMISSION, (1, 9, [9, 9, 9], 9, 0)),
+];
+
+/// The same CLR at a founding node drops copies of lesser stamps and keeps the rest. Rows stay.
+const FOUNDING: &[Part] = &[
+    (
+        &[
+            (Happens::Purge("http://o/x", 3), " clr 2"),
+            (Happens::Ask("http://o/a", 0), " read 33"),
+            (
+                Happens::Origin(33, "http://o/a", 1),
+                " serve stamp 3 tag 2 age 1",
+            ),
+            (
+                Happens::Clear(4800, 3, true, "X-Purge-Base: 3\r\n"),
+                " clr 2",
+            ),
+        ],
+        (1, 3, [3, 3, 3], 3, 1),
+    ),
+    (
+        &[
+            (
+                Happens::Clear(4800, 9, true, "X-Purge-Base: 9\r\n"),
+                " clr 0",
+            ),
+            (
+                Happens::Clear(4800, 9, true, "X-Purge-Base: 9\r\n"),
+                " clr 2",
+            ),
+        ],
+        (1, 9, [9, 9, 9], 9, 0),
+    ),
+    (
+        &[
+            (Happens::Ask("http://o/b", 0), " read 65"),
+            (
+                Happens::Origin(65, "http://o/b", 1),
+                " serve stamp 9 tag 1 age 1",
+            ),
+            (Happens::Clear(4800, 9, false, "X-Purge-Base: 9\r\n"), ""),
+        ],
+        (1, 9, [9, 9, 9], 9, 1),
+    ),
+    (
+        &[(Happens::Clear(4800, 10, false, "X-Purge-Base: 10\r\n"), "")],
+        (1, 10, [10, 10, 10], 10, 0),
+    ),
+];
+
+#[test]
+fn a_node_that_joins_is_admitted(rt: HostRuntime) -> Result<(), Fail> {
+    check_parts(&rt, JOINING, MemoryFloors::new(rt.alloc()), JOINS)?;
+    check_parts(&rt, ONE, MemoryFloors::new(rt.alloc()), FOUNDING)
+}
+
+/// Whether node 1 of this roster is outside as it opens over these floors.
+fn is_outside(rt: &HostRuntime, roster: &str, floors: MemoryFloors) -> Result<bool, Fail> {
+    let held = over(rt, roster_of(rt.alloc(), roster)?, floors)?;
+    Ok(held.node.is_outside())
+}
+
+/// Floors with the base 9.
+fn with_base(alloc: Global) -> Result<MemoryFloors, Fail> {
+    let mut floors = MemoryFloors::new(alloc);
+    match floors.raise_base(9) {
+        Ok(()) => Ok(floors),
+        Err(fault) => Err(fault.name().into()),
+    }
+}
+
+#[test]
+fn a_node_with_a_base_is_admitted_as_it_opens(rt: HostRuntime) -> Result<(), Fail> {
+    let alloc = rt.alloc();
+    want(is_outside(&rt, JOINING, MemoryFloors::new(alloc))?, "joins")?;
+    want(!is_outside(&rt, JOINING, with_base(alloc)?)?, "admitted")?;
+    want(!is_outside(&rt, ONE, MemoryFloors::new(alloc))?, "founding")
 }

@@ -8,7 +8,7 @@ use std::test::Fail;
 
 pub(crate) type Disks = Fuse<Memory>;
 
-/// The table of either kind of file that says its version, and its row.
+/// The table of either kind of file that says its version, and its row in files of form 1.
 pub(crate) const FORM: &str = "CREATE TABLE form (version INTEGER PRIMARY KEY) STRICT";
 
 pub(crate) const VERSION: &str = "INSERT INTO form VALUES (1)";

@@ -3,10 +3,12 @@ mod full;
 mod stops;
 
 use crate::disks::{FORM, VERSION, made_by};
-use floor_rules::{FloorFault, FloorStore, Floors};
+use floor_rules::{FloorFault, FloorStore, Floors, MemoryFloors};
 use purge_numbers::SqliteFloors;
+use sqlite::{Connection, MemStore};
 use std::alloc::Global;
 use std::test::Fail;
+use tests_kit::want;
 use url_key::Key;
 
 /// Raises the key's number, which is at least 1.
@@ -30,6 +32,14 @@ fn raise<F: FloorStore>(
     number: u32,
 ) -> Result<Result<(), FloorFault>, Fail> {
     raise_key(store, alloc, &Key::read(alloc, url.as_bytes())?, number)
+}
+
+/// Raises the base, to a number of at least 1.
+fn raise_base<F: FloorStore>(store: &mut F, number: u32) -> Result<Result<(), FloorFault>, Fail> {
+    if number == 0 {
+        return Err("a number of at least 1".into());
+    }
+    Ok(store.raise_base(number))
 }
 
 fn loaded<F: FloorStore>(store: &mut F, alloc: Global) -> Result<Floors, Fail> {
@@ -88,6 +98,65 @@ fn floors_by_themselves(rt: HostRuntime) -> Result<(), Fail> {
         raise_in(&mut floors, rt.alloc(), url, number)?;
     }
     assert_eq!(rt; flaw(&floors, &copy, rt.alloc())?, None);
+    Ok(())
+}
+
+/// A raise of the base, and what is told then.
+type Raised = (u32, Told);
+
+/// Over the floors 3 and 5: a base that is less than one floor or both is one for all other keys; a
+/// lesser one changes nothing; a base above both is the floor of all, and their rows stay.
+const BASES: [Raised; 4] = [
+    (2, ([3, 5, 2], 5, 2)),
+    (4, ([4, 5, 4], 5, 2)),
+    (1, ([4, 5, 4], 5, 2)),
+    (9, ([9, 9, 9], 9, 2)),
+];
+
+/// The first raise of the base after which something else is told.
+fn wrong_base<F: FloorStore>(store: &mut F, alloc: Global) -> Result<Option<u32>, Fail> {
+    for (url, number) in [("http://a/", 3), ("http://b/", 5)] {
+        want(raise(store, alloc, url, number)? == Ok(()), "a raise")?;
+    }
+    for (number, wanted) in BASES {
+        let went = raise_base(store, number)? == Ok(());
+        if !went || told(&loaded(store, alloc)?, alloc)? != wanted {
+            return Ok(Some(number));
+        }
+    }
+    Ok(None)
+}
+
+#[test]
+fn a_base_that_rises_in_memory(rt: HostRuntime) -> Result<(), Fail> {
+    let mut store = MemoryFloors::new(rt.alloc());
+    assert_eq!(rt; wrong_base(&mut store, rt.alloc())?, None);
+    Ok(())
+}
+
+/// What is told of a file in which the base rose so, when it is opened again.
+fn told_again(alloc: Global, conn: Connection<MemStore>) -> Result<Told, Fail> {
+    match SqliteFloors::open(alloc, conn) {
+        Ok(mut store) => told(&loaded(&mut store, alloc)?, alloc),
+        Err((_, fault)) => Err(fault.name())?,
+    }
+}
+
+/// The connection of a file in which the base rose so.
+fn rebased(alloc: Global) -> Result<Connection<MemStore>, Fail> {
+    match SqliteFloors::open(alloc, Connection::open_in_memory(alloc)?) {
+        Ok(mut store) => {
+            want(wrong_base(&mut store, alloc)?.is_none(), "the bases")?;
+            Ok(store.into_connection())
+        }
+        Err((_, fault)) => Err(fault.name())?,
+    }
+}
+
+#[test]
+fn a_base_that_rises_in_a_file(rt: HostRuntime) -> Result<(), Fail> {
+    let found = told_again(rt.alloc(), rebased(rt.alloc())?)?;
+    assert_eq!(rt; found, ([9, 9, 9], 9, 2));
     Ok(())
 }
 

@@ -1,7 +1,9 @@
 //! Members and purges, in worked rows.
-use crate::calls::{add, counts, is_marked, mark};
+use crate::calls::{add, admission_at, admit, counts, is_marked, loaded, mark};
 use htcp_wire::fits;
-use purge_rules::{MemberSet, MemoryPurges, PurgeStore, Purges, Status, clear};
+use purge_rules::{
+    Admission, MemberSet, MemoryPurges, Nodes, PurgeStore, Purges, Status, base_clear, clear,
+};
 use std::alloc::Global;
 use std::test::Fail;
 use url_key::Key;
@@ -86,19 +88,27 @@ const STATUSES: [(u32, Status); 6] = [
     (6, Status::Unknown),
 ];
 
+/// Nodes of these ids, none of which joins.
+fn founding(ids: &[u8]) -> Nodes {
+    Nodes {
+        members: set_of(ids),
+        joining: MemberSet::new(),
+    }
+}
+
 /// The first number that is otherwise.
-fn wrong_status(purges: &Purges, members: MemberSet) -> Option<u32> {
+fn wrong_status(purges: &Purges, nodes: &Nodes) -> Option<u32> {
     for (number, expected) in STATUSES {
-        if purges.status(members, number) != expected {
+        if purges.status(nodes, number) != expected {
             return Some(number);
         }
     }
     None
 }
 
-/// What is due of them for these members.
-fn is_due(alloc: Global, purges: &Purges, members: MemberSet) -> Result<bool, Fail> {
-    let due = purges.copy(alloc)?.due(alloc, members)?;
+/// What is due of them for these nodes.
+fn is_due(alloc: Global, purges: &Purges, nodes: &Nodes) -> Result<bool, Fail> {
+    let due = purges.copy(alloc)?.due(alloc, nodes)?;
     Ok(due.as_slice() == [(2u32, 2u8), (5, 1), (5, 2)].as_slice())
 }
 
@@ -107,21 +117,81 @@ fn are_two(purges: &Purges) -> bool {
 }
 
 /// Gives the number 9 away, and whether it is the last one and done.
-fn is_given(purges: &mut Purges, members: MemberSet) -> bool {
+fn is_given(purges: &mut Purges, nodes: &Nodes) -> bool {
     if purges.last() < 9 {
         purges.give(9);
     }
-    purges.last() == 9 && purges.status(members, 9) == Status::Done
+    purges.last() == 9 && purges.status(nodes, 9) == Status::Done
 }
 
 #[test]
 fn purges_from_issue_to_done(rt: HostRuntime) -> Result<(), Fail> {
-    let members = set_of(&[1, 2]);
+    let nodes = founding(&[1, 2]);
     let mut purges = three_purges(rt.alloc())?;
-    assert_eq!(rt; wrong_status(&purges, members), None);
-    assert!(rt; is_due(rt.alloc(), &purges, members)?);
+    assert_eq!(rt; wrong_status(&purges, &nodes), None);
+    assert!(rt; is_due(rt.alloc(), &purges, &nodes)?);
     assert!(rt; are_two(&purges));
-    assert!(rt; is_given(&mut purges, members));
+    assert!(rt; is_given(&mut purges, &nodes));
+    Ok(())
+}
+
+/// Admits a member that has no admission, where the number is above the last one.
+fn admit_to(purges: &mut Purges, number: u32, id: u8) -> Result<(), Fail> {
+    if id < 1 || id > 16 || number <= purges.last() || purges.is_admitted(id) {
+        return Err("a member without an admission, and a number above the last one".into());
+    }
+    Ok(purges.admit(number, id)?)
+}
+
+/// The nodes 1 and 2, which are founding, and 3, which joins.
+fn three_nodes() -> Nodes {
+    Nodes {
+        members: set_of(&[1, 2, 3]),
+        joining: set_of(&[3]),
+    }
+}
+
+/// A purge, the admission of node 3, and a purge.
+fn admitted_between(alloc: Global) -> Result<Purges, Fail> {
+    let mut purges = Purges::new(alloc);
+    add_to(alloc, &mut purges, 1, "http://o/a")?;
+    admit_to(&mut purges, 2, 3)?;
+    add_to(alloc, &mut purges, 3, "http://o/a")?;
+    Ok(purges)
+}
+
+/// The nodes that each of these numbers needs.
+const NEEDED: [(u32, &[u8]); 3] = [(1, &[1, 2]), (2, &[3]), (3, &[1, 2, 3])];
+
+/// The first number that needs others.
+fn wrong_needed(purges: &Purges, nodes: &Nodes) -> Option<u32> {
+    for (number, ids) in NEEDED {
+        let found = purges.needed(nodes, number);
+        let wanted = set_of(ids);
+        if !found.are_in(wanted) || !wanted.are_in(found) {
+            return Some(number);
+        }
+    }
+    None
+}
+
+/// What is due of them, before node 3 has acknowledged its admission and after it.
+const DUE: [&[(u32, u8)]; 2] = [
+    &[(1, 1), (1, 2), (2, 3), (3, 1), (3, 2), (3, 3)],
+    &[(1, 1), (1, 2), (3, 1), (3, 2), (3, 3)],
+];
+
+#[test]
+fn an_admission_between_purges(rt: HostRuntime) -> Result<(), Fail> {
+    let nodes = three_nodes();
+    let mut purges = admitted_between(rt.alloc())?;
+    assert_eq!(rt; wrong_needed(&purges, &nodes), None);
+    for due in DUE {
+        let found = purges.due(rt.alloc(), &nodes)?;
+        assert!(rt; found.as_slice() == due);
+        purges.finish(2);
+    }
+    assert!(rt; purges.status(&nodes, 2) == Status::Done);
     Ok(())
 }
 
@@ -145,10 +215,37 @@ fn flaw<P: PurgeStore>(store: &mut P, alloc: Global) -> Result<Option<&'static s
     Ok(None)
 }
 
+/// What is wrong where a member is admitted and its admission is finished.
+fn admission_flaw<P: PurgeStore>(
+    store: &mut P,
+    alloc: Global,
+) -> Result<Option<&'static str>, Fail> {
+    if admit(store, alloc, 65538, 16)? != Ok(()) {
+        return Ok(Some("admitted"));
+    }
+    let mut wanted = Admission {
+        member: 16,
+        number: 65538,
+        is_done: false,
+    };
+    if admission_at(&loaded(store, alloc)?, 0) != Some(wanted) {
+        return Ok(Some("pending"));
+    }
+    if store.finish(alloc, 65538) != Ok(()) {
+        return Ok(Some("finished"));
+    }
+    wanted.is_done = true;
+    if admission_at(&loaded(store, alloc)?, 0) != Some(wanted) {
+        return Ok(Some("done"));
+    }
+    Ok(None)
+}
+
 #[test]
 fn purges_in_memory(rt: HostRuntime) -> Result<(), Fail> {
     let mut store = MemoryPurges::new(rt.alloc());
     assert_eq!(rt; flaw(&mut store, rt.alloc())?, None);
+    assert_eq!(rt; admission_flaw(&mut store, rt.alloc())?, None);
     Ok(())
 }
 
@@ -157,5 +254,7 @@ fn a_clear_fits_a_datagram(rt: HostRuntime) -> Result<(), Fail> {
     let key = Key::read(rt.alloc(), b"http://o/a")?;
     let message = clear(rt.alloc(), 65537, &key)?;
     assert!(rt; message.trans == 65537 && fits(&message));
+    let message = base_clear(rt.alloc(), 65538)?;
+    assert!(rt; message.trans == 65538 && fits(&message));
     Ok(())
 }

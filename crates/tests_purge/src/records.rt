@@ -1,11 +1,11 @@
-//! A master's purges in files: purges beside one another, a file with an open transaction, and
-//! files that stop.
+//! A master's purges and admissions in files: purges beside one another, admissions among them, a
+//! file of form 1, a file with an open transaction, and files that stop.
 mod stops;
 
-use crate::calls::{add, counts, is_marked, mark};
+use crate::calls::{add, admission_at, admit, counts, is_marked, loaded, mark};
 use crate::disks::{FORM, VERSION, made_by};
 use purge_records::SqlitePurges;
-use purge_rules::{PurgeFault, PurgeStore};
+use purge_rules::{Admission, PurgeFault, PurgeStore};
 use sqlite::{Connection, MemStore};
 use std::alloc::Global;
 use std::test::Fail;
@@ -35,15 +35,20 @@ fn in_memory(alloc: Global) -> Result<Held, Fail> {
 enum Call {
     /// A purge is added under this number, of this URL.
     Add(u32, &'static str),
+    /// This member is admitted under this number.
+    Admit(u32, u8),
     /// The purge of this number is marked by this member.
     Mark(u32, u8),
-    /// The purge of this number is finished.
+    /// The purge of this number is finished, or the admission.
     Finish(u32),
 }
 
 fn make<P: PurgeStore>(store: &mut P, alloc: Global, call: Call) -> Result<(), Fail> {
     match call {
         Call::Add(number, url) => want(add(store, alloc, number, url)? == Ok(()), "added"),
+        Call::Admit(number, member) => {
+            want(admit(store, alloc, number, member)? == Ok(()), "admitted")
+        }
         Call::Mark(number, member) => want(mark(store, alloc, number, member)? == Ok(()), "marked"),
         Call::Finish(number) => want(store.finish(alloc, number) == Ok(()), "finished"),
     }
@@ -120,6 +125,57 @@ fn purges_beside_one_another(rt: HostRuntime) -> Result<(), Fail> {
     Ok(())
 }
 
+/// Two admissions among purges; the first is finished, and so is the purge behind it.
+const TWO_ADMISSIONS: [Call; 7] = [
+    Call::Add(1, "http://a/"),
+    Call::Admit(2, 9),
+    Call::Add(3, "http://b/"),
+    Call::Admit(5, 1),
+    Call::Mark(1, 2),
+    Call::Finish(2),
+    Call::Finish(3),
+];
+
+/// What stands of them: by number, and so not by member.
+const ADMISSIONS: [Admission; 2] = [
+    Admission {
+        member: 9,
+        number: 2,
+        is_done: true,
+    },
+    Admission {
+        member: 1,
+        number: 5,
+        is_done: false,
+    },
+];
+
+/// The first place at which another admission stands, or one too many.
+fn wrong_admission<P: PurgeStore>(store: &mut P, alloc: Global) -> Result<Option<usize>, Fail> {
+    let purges = loaded(store, alloc)?;
+    for (place, wanted) in ADMISSIONS.iter().enumerate() {
+        if admission_at(&purges, place) != Some(*wanted) {
+            return Ok(Some(place));
+        }
+    }
+    if admission_at(&purges, 2).is_some() {
+        return Ok(Some(2));
+    }
+    Ok(None)
+}
+
+/// A number that nothing has is finished too, which changes nothing.
+#[test]
+fn admissions_beside_purges(rt: HostRuntime) -> Result<(), Fail> {
+    let alloc = rt.alloc();
+    let mut held = again(alloc, in_memory(alloc)?, &TWO_ADMISSIONS)?;
+    assert_eq!(rt; wrong_admission(&mut held.store, alloc)?, None);
+    assert_eq!(rt; counts(&mut held.store, alloc)?, (5, 1));
+    let mut held = again(alloc, held, &[Call::Finish(2), Call::Finish(4)])?;
+    assert_eq!(rt; wrong_admission(&mut held.store, alloc)?, None);
+    Ok(())
+}
+
 const LAST: &str =
     "CREATE TABLE last (id INTEGER PRIMARY KEY CHECK (id = 1), number INTEGER NOT NULL) STRICT";
 
@@ -136,6 +192,71 @@ fn refusal_of(alloc: Global, statements: &[&str]) -> Result<Option<PurgeFault>, 
         Ok(_) => Ok(None),
         Err((_, fault)) => Ok(Some(fault)),
     }
+}
+
+const ADMITTED: &str =
+    "CREATE TABLE admitted (member INTEGER PRIMARY KEY CHECK (member >= 1 AND member <= 16), number INTEGER NOT NULL UNIQUE, done INTEGER NOT NULL CHECK (done = 0 OR done = 1)) STRICT";
+
+const VERSION_TWO: &str = "INSERT INTO form VALUES (2)";
+
+/// Rows of `admitted` beside the last number 9 and a purge of the number 4, and how a file with
+/// them is refused.
+const ROWS: [(&str, Option<PurgeFault>); 5] = [
+    ("INSERT INTO admitted VALUES (16, 9, 1), (1, 1, 0)", None),
+    (
+        "INSERT INTO admitted VALUES (3, 10, 0)",
+        Some(PurgeFault::BadTable),
+    ),
+    (
+        "INSERT INTO admitted VALUES (3, 4, 0)",
+        Some(PurgeFault::BadTable),
+    ),
+    (
+        "INSERT INTO admitted VALUES (3, 0, 0)",
+        Some(PurgeFault::BadTable),
+    ),
+    (
+        "INSERT INTO admitted VALUES (3, -1, 1)",
+        Some(PurgeFault::BadTable),
+    ),
+];
+
+const FOUR: &str = "INSERT INTO pending VALUES (4, 'http://a/')";
+
+#[test]
+fn rows_of_admissions(rt: HostRuntime) -> Result<(), Fail> {
+    for (row, expected) in ROWS {
+        let statements = [
+            FORM,
+            LAST,
+            PENDING,
+            ACKS,
+            ADMITTED,
+            VERSION_TWO,
+            NINE,
+            FOUR,
+            row,
+        ];
+        let refusal = refusal_of(rt.alloc(), &statements)?;
+        assert_eq!(rt; refusal, expected, "{row}");
+    }
+    Ok(())
+}
+
+/// Versions beside the tables of form 1, with `admitted` or without it, that do not open.
+const OTHER_FORMS: [(&str, &str); 3] = [
+    (VERSION, ADMITTED),
+    (VERSION_TWO, NINE),
+    ("INSERT INTO form VALUES (3)", ADMITTED),
+];
+
+#[test]
+fn other_versions_are_refused(rt: HostRuntime) -> Result<(), Fail> {
+    for (version, more) in OTHER_FORMS {
+        let refusal = refusal_of(rt.alloc(), &[FORM, LAST, PENDING, ACKS, version, more])?;
+        assert_eq!(rt; refusal, Some(PurgeFault::BadTable), "{version}");
+    }
+    Ok(())
 }
 
 #[test]

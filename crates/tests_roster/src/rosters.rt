@@ -107,6 +107,31 @@ fn two_are_siblings(rt: HostRuntime) {
     assert_eq!(rt; flaw_of_two(&roster), None);
 }
 
+/// A change of the second roster, and whether its nodes 1 and 2 are founding then.
+const JOINS: [(&str, &str, bool, bool); 4] = [
+    ("id = 2\nname", "id = 2\nname", true, true),
+    ("id = 2\nname", "id = 2\njoins = true\nname", true, false),
+    ("id = 1\nname", "id = 1\njoins = true\nname", false, true),
+    ("\nname", "\njoins = false\nname", true, true),
+];
+
+/// Whether a roster has this founding member.
+fn is_founding(roster: &Roster, id: u8) -> bool {
+    roster.is_member(id) && roster.is_founding(id)
+}
+
+#[test]
+fn nodes_join_or_found(rt: HostRuntime) {
+    for (old, new, first, second) in &JOINS {
+        let roster = read(&rt, &changed(&rt, old, new));
+        let copy = roster.copy(rt.alloc()).expect(&rt, "memory");
+        assert!(rt;
+            is_founding(&copy, 1) == *first && is_founding(&copy, 2) == *second,
+            "{new}"
+        );
+    }
+}
+
 /// The peers of the first of two members, which is node 1.
 fn first_peers(roster: &Roster) -> &[Peer] {
     match roster.members() {
@@ -147,7 +172,7 @@ fn changed(rt: &(impl Abort + AllocGlobal), old: &str, new: &str) -> String {
 }
 
 /// The second roster with a text in the place of another, and the fault of what comes of it.
-const CHANGES: [(&str, &str, RosterFault); 61] = [
+const CHANGES: [(&str, &str, RosterFault); 65] = [
     ("default_lifetime = 60", "x =", RosterFault::BadToml),
     ("[master]", "[master", RosterFault::BadToml),
     (
@@ -265,6 +290,27 @@ const CHANGES: [(&str, &str, RosterFault); 61] = [
     ),
     ("http = 8102", "http = 65536", RosterFault::BadField),
     ("icp = 3102", "icp = true", RosterFault::BadField),
+    (
+        "id = 2\nname",
+        "id = 2\njoins = 1\nname",
+        RosterFault::BadField,
+    ),
+    (
+        "id = 2\nname",
+        "id = 2\njoins = \"true\"\nname",
+        RosterFault::BadField,
+    ),
+    (
+        "id = 2\nrole",
+        "id = 2\njoins = true\nrole",
+        RosterFault::BadField,
+    ),
+    // both nodes join, and have one address
+    (
+        "\nicp = 310",
+        "\njoins = true\nicp = 3101 #",
+        RosterFault::BadField,
+    ),
     ("id = 2\nrole", "id = 17\nrole", RosterFault::BadField),
     ("id = 2\nrole", "id = 100\nrole", RosterFault::BadField),
     ("id = 2\nrole", "id = 109\nrole", RosterFault::BadField),

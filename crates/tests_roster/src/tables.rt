@@ -85,7 +85,7 @@ fn fault_of(rt: &(impl Abort + AllocGlobal), old: &str, new: &str) -> Option<Tab
 }
 
 /// A change of the tables, and the fault of what comes of it.
-const FAULTS: [(&str, &str, TablesFault); 2] = [
+const FAULTS: [(&str, &str, TablesFault); 4] = [
     (
         "\"htcp\"",
         "\"http\"",
@@ -94,6 +94,28 @@ const FAULTS: [(&str, &str, TablesFault); 2] = [
             entry: 1,
             peer: 1,
             key: "by",
+            line: None,
+        }),
+    ),
+    (
+        "id = 1\n",
+        "id = 1\njoins = 1\n",
+        TablesFault::BadField(TextPlace {
+            table: TableKind::Node,
+            entry: 1,
+            peer: 0,
+            key: "joins",
+            line: None,
+        }),
+    ),
+    (
+        "id = 1\n",
+        "id = 1\njoins = true\n",
+        TablesFault::BadField(TextPlace {
+            table: TableKind::Node,
+            entry: 0,
+            peer: 0,
+            key: "joins",
             line: None,
         }),
     ),

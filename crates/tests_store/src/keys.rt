@@ -6,7 +6,7 @@ use tests_kit::first_wrong;
 use url_key::{Key, KeyFault};
 
 /// Each text, and the text of its key or the name of its fault.
-const TEXTS: [(&[u8], &[u8]); 34] = [
+const TEXTS: [(&[u8], &[u8]); 36] = [
     (b"HTTP://O", b"http://o/"),
     (b"http://o:8080/A?b", b"http://o:8080/A?b"),
     (b"http://o:080/", b"http://o/"),
@@ -42,7 +42,9 @@ const TEXTS: [(&[u8], &[u8]); 34] = [
     (b"http://o:0/", b"BadPort"),
     (b"http://o:65536/", b"BadPort"),
     (b"http://o:000080/", b"BadPort"),
-    (b"http://o:/", b"BadPort"),
+    (b"http://o:/", b"http://o/"),
+    (b"http://O:?q", b"http://o/?q"),
+    (b"http://o::/", b"NotUri"),
     (b"http://[::1]x/", b"BadPort"),
 ];
 

@@ -26,7 +26,7 @@ fn lifetime_of(rt: &(impl Abort + AllocGlobal), lines: &[(&str, &str)]) -> Optio
 
 /// A `cache-control` field, and the lifetime of an answer of status 200 that has no other, where
 /// the default is 30.
-const CONTROLS: [(&str, Option<u64>); 64] = [
+const CONTROLS: [(&str, Option<u64>); 65] = [
     // Which directives count.
     ("max-age=60, s-maxage=5", Some(5)),
     ("s-maxage=5, max-age=60", Some(5)),
@@ -65,10 +65,11 @@ const CONTROLS: [(&str, Option<u64>); 64] = [
     ("x=\"a\\\", no-store\", max-age=60", Some(60)),
     ("x=\"\\\"\", no-store", None),
     ("x=\"\\\\\", no-store", None),
-    ("x=\\\", no-store", Some(30)),
-    // A quoted string that has no end holds the rest.
-    ("x=\"a, no-store", Some(30)),
-    ("max-age=60, x=\"a, max-age=9", Some(60)),
+    // A quoted string that has no end may hide a directive: the response is not stored.
+    ("x=\\\", no-store", None),
+    ("x=\"a, no-store", None),
+    ("max-age=60, x=\"a, max-age=9", None),
+    ("max-age=60, x=\"a\\\"", None),
     // A directive's name is a token, and no quoted string.
     ("\"no-store\"", Some(30)),
     ("=60, max-age=5", Some(5)),
@@ -124,7 +125,19 @@ fn which_statuses_are_stored(rt: HostRuntime) {
 }
 
 /// Fields of an answer of status 200, and its lifetime where the default is 30.
-const FIELDS: [(&[(&str, &str)], Option<u64>); 12] = [
+const FIELDS: [(&[(&str, &str)], Option<u64>); 14] = [
+    (
+        &[
+            ("cache-control", "max-age=60"),
+            ("cache-control", "\"a"),
+            ("c", "d"),
+        ],
+        None,
+    ),
+    (
+        &[("cache-control", "max-age=60"), ("x", "\"a"), ("c", "d")],
+        Some(60),
+    ),
     (&[("a", "b"), ("date", "x"), ("etag", "\"x\"")], Some(30)),
     (&[("a", "b"), ("vary", "accept"), ("c", "d")], None),
     (

@@ -18,6 +18,10 @@ const TST: &str =
 const CLR: &str =
     "00400000 003a 4002 00000007 0000 0003474554 000a687474703a2f2f6f2f61 0008485454502f312e31 0013582d50757267652d4e756d6265723a20370d0a 0002";
 
+/// The CLR that admits a node under the number 9: its URI is empty, and its TRANS-ID is the number.
+const ADMISSION: &str =
+    "00340000 002e 4002 00000009 0000 0003474554 0000 0008485454502f312e31 0011 582d50757267652d426173653a20390d0a 0002";
+
 /// The octets that a text writes in hex. Blanks are for reading only.
 fn octets_of(rt: &(impl Abort + AllocGlobal), text: &str) -> Vec<u8> {
     let mut octets = Vec::new(rt.alloc());
@@ -271,11 +275,28 @@ fn is_message(rt: &(impl Abort + AllocGlobal), row: &Row) -> bool {
     is_said_by(rt.alloc(), &want, name, &octets_of(rt, octets))
 }
 
+/// Whether the CLR that admits a node is said by its octets.
+fn is_admission(rt: &(impl Abort + AllocGlobal)) -> bool {
+    let mut spec = get(rt, b"X-Purge-Base: 9\r\n");
+    spec.uri = text(rt, b"");
+    let want = Htcp {
+        minor: 0,
+        trans: 9,
+        content: Content::ClrAsk {
+            desired: true,
+            reason: 0,
+            spec,
+        },
+    };
+    is_said_by(rt.alloc(), &want, "ClrAsk", &octets_of(rt, ADMISSION))
+}
+
 #[test]
 fn messages(rt: HostRuntime) {
     for row in &MESSAGES {
         assert!(&rt; is_message(&rt, row), "{}: {}", row.1, row.0);
     }
+    assert!(&rt; is_admission(&rt), "{ADMISSION}");
 }
 
 /// A datagram in hex; its MINOR and its TRANS-ID, and its content's kind and two numbers of it.
@@ -733,10 +754,27 @@ const NUMBERS: [(&[u8], Result<Option<u32>, HtcpFault>); 22] = [
     (b"X-Purge-Stamp: 7\r\n", Ok(None)),
 ];
 
+/// Lines of headers, and the number of an admission in them.
+const BASES: [(&[u8], Result<Option<u32>, HtcpFault>); 9] = [
+    (b"", Ok(None)),
+    (b"X-Purge-Base: 9\r\n", Ok(Some(9))),
+    (b"x-purge-BASE:\t9", Ok(Some(9))),
+    (b"X-Purge-Base: 4294967295\r\n", Ok(Some(4_294_967_295))),
+    (b"X-Purge-Base: 4294967296\r\n", Err(BadNumber)),
+    (b"X-Purge-Base: 09\r\n", Err(BadNumber)),
+    (b"X-Purge-Base: 9\r\nX-Purge-Base: 9\r\n", Err(BadNumber)),
+    (b"X-Purge-Number: 9\r\n", Ok(None)),
+    (b"X-Purge-Bases: 9\r\n", Ok(None)),
+];
+
 #[test]
 fn numbers(rt: HostRuntime) {
     for (text, number) in &NUMBERS {
         let found = number_in(text, HeaderKind::PurgeNumber);
+        assert!(&rt; found == *number, "{text:?}");
+    }
+    for (text, number) in &BASES {
+        let found = number_in(text, HeaderKind::PurgeBase);
         assert!(&rt; found == *number, "{text:?}");
     }
     let stamp = number_in(b"X-Purge-Stamp: 3\r\n", HeaderKind::PurgeStamp);

@@ -36,6 +36,8 @@ impl FloorStore for FailingFloors {
 
     ghost has_cause = { λ _ _ _ _. Unit {0} };
 
+    ghost has_base_cause = { λ _ _ _. Unit {0} };
+
     fn load(&mut self, _alloc: Global) -> Result<Floors, FloorFault> {
         if self.failures != 0 {
             self.failures = self.failures.saturating_add(1);
@@ -50,6 +52,16 @@ impl FloorStore for FailingFloors {
             return Err(FloorFault::StoreFault);
         }
         self.floors.raise(alloc, key, number)?;
+        self.raises_left -= 1;
+        Ok(())
+    }
+
+    fn raise_base(&mut self, number: u32) -> Result<(), FloorFault> {
+        if self.failures != 0 || self.raises_left == 0 {
+            self.failures = self.failures.saturating_add(1);
+            return Err(FloorFault::StoreFault);
+        }
+        self.floors.raise_base(number);
         self.raises_left -= 1;
         Ok(())
     }

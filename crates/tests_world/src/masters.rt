@@ -1,7 +1,7 @@
 //! Worked runs of a master, each a table of calls and of what they are answered.
 ghost use Rattle.std.specs.Prelude.{◌≡◌, ◌==◌};
 
-use crate::setting::TWO;
+use crate::setting::{JOINING, TWO};
 use htcp_wire::{Content, HeaderKind, Htcp, number_in};
 use purge_master::{Master, MasterBook};
 use purge_rules::{
@@ -18,6 +18,8 @@ use url_key::Key;
 enum Call {
     /// A purge of this URL.
     Issue(&'static str),
+    /// An admission of this member.
+    Admit(u8),
     /// This member's response, with this TRANS-ID and this code.
     Acknowledge(u8, u32, u8),
     /// The list of what is due.
@@ -63,6 +65,16 @@ impl PurgeStore for FailingPurges {
         Ok(())
     }
 
+    fn admit(&mut self, _alloc: Global, number: u32, member: u8) -> Result<(), PurgeFault> {
+        if self.failures != 0 || self.writes_left == 0 {
+            self.failures = self.failures.saturating_add(1);
+            return Err(PurgeFault::StoreFault);
+        }
+        self.purges.admit(number, member)?;
+        self.writes_left -= 1;
+        Ok(())
+    }
+
     fn mark(&mut self, _alloc: Global, number: u32, member: u8) -> Result<(), PurgeFault> {
         if self.failures != 0 || self.writes_left == 0 {
             self.failures = self.failures.saturating_add(1);
@@ -94,8 +106,12 @@ struct Held<S: PurgeStore + Drop> {
     book: MasterBook<S>,
 }
 
-fn open<S: PurgeStore + Drop>(rt: &HostRuntime, store: S) -> Result<Held<S>, Fail> {
-    match Master::open(rt.alloc(), &roster_of(rt.alloc(), TWO)?, store) {
+fn open_at<S: PurgeStore + Drop>(
+    rt: &HostRuntime,
+    roster: &str,
+    store: S,
+) -> Result<Held<S>, Fail> {
+    match Master::open(rt.alloc(), &roster_of(rt.alloc(), roster)?, store) {
         Ok(master) => Ok(Held {
             book: MasterBook::open(master),
         }),
@@ -103,22 +119,31 @@ fn open<S: PurgeStore + Drop>(rt: &HostRuntime, store: S) -> Result<Held<S>, Fai
     }
 }
 
+fn open<S: PurgeStore + Drop>(rt: &HostRuntime, store: S) -> Result<Held<S>, Fail> {
+    open_at(rt, TWO, store)
+}
+
 fn in_memory(rt: &HostRuntime) -> Result<Held<MemoryPurges>, Fail> {
     open(rt, MemoryPurges::new(rt.alloc()))
 }
 
-fn failing(rt: &HostRuntime, writes: u32) -> Result<Held<FailingPurges>, Fail> {
-    let store = FailingPurges {
+/// Purges whose store takes so many writes.
+fn store_of(rt: &HostRuntime, writes: u32) -> FailingPurges {
+    FailingPurges {
         purges: Purges::new(rt.alloc()),
         writes_left: writes,
         failures: 0,
-    };
-    open(rt, store)
+    }
+}
+
+fn failing(rt: &HostRuntime, writes: u32) -> Result<Held<FailingPurges>, Fail> {
+    open(rt, store_of(rt, writes))
 }
 
 fn call_of(rt: &HostRuntime, call: Call) -> Result<MasterCall, Fail> {
     Ok(match call {
         Call::Issue(url) => MasterCall::Issue(key_of(rt.alloc(), url.as_bytes())?),
+        Call::Admit(id) => MasterCall::Admit(id),
         Call::Acknowledge(member, trans, code) => MasterCall::Acknowledge {
             member,
             trans,
@@ -150,6 +175,7 @@ fn write_status(text: &mut String, status: &Status) -> Result<(), Fail> {
 fn write_answer(text: &mut String, answer: &MasterAnswer) -> Result<(), Fail> {
     match answer {
         MasterAnswer::Issue(number) => write!(text, "issued {number}")?,
+        MasterAnswer::Admit(number) => write!(text, "admitted {number}")?,
         MasterAnswer::Acknowledge(Some(number)) => write!(text, "done {number}")?,
         MasterAnswer::Acknowledge(None) => write!(text, "none done")?,
         MasterAnswer::Due(pairs) => write_due(text, pairs.as_slice())?,
@@ -223,23 +249,32 @@ fn check<S: PurgeStore>(
     want(book.entries().len() == wanted, "as many entries as calls")
 }
 
-/// The TRANS-ID of a message and the number that its header line tells.
-fn told(message: &Htcp) -> Option<(u32, u32)> {
+/// The TRANS-ID of a message and the number that its header line of this kind tells.
+fn told(message: &Htcp, kind: HeaderKind) -> Option<(u32, u32)> {
     let Content::ClrAsk { spec, .. } = &message.content else {
         return None;
     };
-    match number_in(spec.request_headers.as_slice(), HeaderKind::PurgeNumber) {
+    match number_in(spec.request_headers.as_slice(), kind) {
         Ok(Some(number)) => Some((message.trans, number)),
         _ => None,
     }
 }
 
-/// The same of the message of a pending purge.
-fn sent<S: PurgeStore>(book: &MasterBook<S>, number: u32) -> Result<Option<(u32, u32)>, Fail> {
+/// The same of the message of a pending number.
+fn sent_as<S: PurgeStore>(
+    book: &MasterBook<S>,
+    number: u32,
+    kind: HeaderKind,
+) -> Result<Option<(u32, u32)>, Fail> {
     match book.message(number)? {
-        Some(message) => Ok(told(&message)),
+        Some(message) => Ok(told(&message, kind)),
         None => Ok(None),
     }
+}
+
+/// The same of the message of a pending purge.
+fn sent<S: PurgeStore>(book: &MasterBook<S>, number: u32) -> Result<Option<(u32, u32)>, Fail> {
+    sent_as(book, number, HeaderKind::PurgeNumber)
 }
 
 /// A purge, from its issue until both members have acknowledged it.
@@ -273,6 +308,57 @@ fn a_purge_is_done_once_all_have_acknowledged_it(rt: HostRuntime) -> Result<(), 
     assert_eq!(rt; held.book.entries().len(), 20);
     assert_eq!(rt; sent(&held.book, 1)?, None);
     Ok(())
+}
+
+/// An admission between two purges: member 1 is founding, and member 2 joins. The first purge needs
+/// member 1, the admission member 2, the second purge both.
+const ADMITTED: [(Call, &str); 26] = [
+    (Call::Admit(1), "NotJoining"),
+    (Call::Admit(3), "NotJoining"),
+    (Call::Admit(0), "NotJoining"),
+    (Call::Issue("http://o/a"), "issued 1"),
+    (Call::Status(1), "misses 1"),
+    (Call::Due, "due 1:1"),
+    (Call::Admit(2), "admitted 2"),
+    (Call::Admit(2), "NotJoining"),
+    (Call::Issue("http://o/a"), "issued 3"),
+    (Call::Status(1), "misses 1"),
+    (Call::Status(2), "misses 1"),
+    (Call::Status(3), "misses 2"),
+    (Call::Due, "due 1:1 2:2 3:1 3:2"),
+    (Call::Acknowledge(2, 1, 0), "none done"),
+    (Call::Acknowledge(1, 2, 0), "none done"),
+    (Call::Acknowledge(2, 2, 1), "none done"),
+    (Call::Due, "due 1:1 2:2 3:1 3:2"),
+    (Call::Acknowledge(2, 3, 0), "none done"),
+    (Call::Acknowledge(2, 2, 2), "done 2"),
+    (Call::Acknowledge(2, 2, 2), "none done"),
+    (Call::Due, "due 1:1 3:1"),
+    (Call::Acknowledge(1, 1, 0), "done 1"),
+    (Call::Acknowledge(1, 3, 0), "done 3"),
+    (Call::Status(2), "done"),
+    (Call::Admit(2), "NotJoining"),
+    (Call::Due, "due"),
+];
+
+/// The same up to its first acknowledgement, in a master that is opened again behind it.
+const ADMITTED_BEFORE: [(Call, &str); 3] = [
+    (Call::Issue("http://o/a"), "issued 1"),
+    (Call::Admit(2), "admitted 2"),
+    (Call::Issue("http://o/a"), "issued 3"),
+];
+
+#[test]
+fn an_admission_needs_its_member(rt: HostRuntime) -> Result<(), Fail> {
+    let mut held = open_at(&rt, JOINING, MemoryPurges::new(rt.alloc()))?;
+    check(&rt, &mut held.book, &ADMITTED)?;
+    let mut held = open_at(&rt, JOINING, MemoryPurges::new(rt.alloc()))?;
+    check(&rt, &mut held.book, &ADMITTED_BEFORE)?;
+    let base = sent_as(&held.book, 2, HeaderKind::PurgeBase)?;
+    assert_eq!(rt; (base, sent(&held.book, 2)?), (Some((2, 2)), None));
+    let Held { book } = held;
+    let mut held = open_at(&rt, JOINING, book.into_master().into_store())?;
+    check(&rt, &mut held.book, &[(Call::Due, "due 1:1 2:2 3:1 3:2")])
 }
 
 /// Two purges, of which the first is done.
@@ -369,6 +455,13 @@ fn at_most_1024_are_pending(rt: HostRuntime) -> Result<(), Fail> {
     check(&rt, &mut held.book, &FULL)
 }
 
+/// An admission over a store that fails at its first write.
+const ADMISSION_FAILS: [(Call, &str); 3] = [
+    (Call::Admit(2), "StoreFault"),
+    (Call::Admit(2), "Closed"),
+    (Call::Status(1), "unknown"),
+];
+
 /// Calls over a store that fails at its first write.
 const FAILS_AT_ONCE: [(Call, &str); 5] = [
     (Call::Issue("http://o/a"), "StoreFault"),
@@ -391,6 +484,9 @@ fn a_fault_of_the_store_closes(rt: HostRuntime) -> Result<(), Fail> {
     let mut held = failing(&rt, 0)?;
     check(&rt, &mut held.book, &FAILS_AT_ONCE)?;
     assert_eq!(rt; sent(&held.book, 1)?, None);
+    assert_eq!(rt; ended(held), (true, 1));
+    let mut held = open_at(&rt, JOINING, store_of(&rt, 0))?;
+    check(&rt, &mut held.book, &ADMISSION_FAILS)?;
     assert_eq!(rt; ended(held), (true, 1));
     Ok(())
 }

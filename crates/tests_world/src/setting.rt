@@ -1,4 +1,4 @@
-//! What the tests have in common: a roster, and the messages of its master.
+//! What the tests have in common: rosters, and the messages of a master.
 use htcp_wire::{Content, Htcp, encode, fits};
 use node_bytes::event_of;
 use node_rules::{Event, Message, Reply};
@@ -29,6 +29,48 @@ address = \"127.0.0.1\"
 http = 8102
 icp = 3102
 htcp = 4102
+[[origin]]
+host = \"o\"
+port = 80
+address = \"127.0.0.1\"
+connect = 8080
+";
+
+/// Two members that are siblings by ICP, of which the second joins, and the origin of `http://o/`.
+pub(crate) const JOINING: &str = "default_lifetime = 60
+copies = 1000
+bytes = 1048576
+query_wait = 2000
+
+[master]
+address = \"127.0.0.1\"
+htcp = 4800
+
+[[node]]
+id = 1
+name = \"n1\"
+address = \"127.0.0.1\"
+http = 8101
+icp = 3101
+htcp = 4101
+[[node.peer]]
+id = 2
+role = \"sibling\"
+by = \"icp\"
+
+[[node]]
+id = 2
+name = \"n2\"
+joins = true
+address = \"127.0.0.1\"
+http = 8102
+icp = 3102
+htcp = 4102
+[[node.peer]]
+id = 1
+role = \"sibling\"
+by = \"icp\"
+
 [[origin]]
 host = \"o\"
 port = 80

@@ -1,4 +1,5 @@
 //! What the scripts of a world cannot say: strangers, foreign caches, and runs of a list of events.
+use crate::setting::JOINING;
 use hierarchy_world::{Datagram, World};
 use htcp_wire::Content;
 use icp_wire::IcpOp;
@@ -21,11 +22,13 @@ const STRANGER: u32 = 0x7f00_0009;
 /// The URL of all that happens.
 const URL: &[u8] = b"http://o/a";
 
-/// What happens: all of it is about that URL and the first member.
+/// What happens: all of it is about that URL, and about the first member but where it says so.
 #[derive(Clone, Copy, Debug)]
 enum Happens {
     /// A client asks.
     Client,
+    /// A client asks the second member.
+    ClientOfSecond,
     /// The origin answers read 33, with the body `one`.
     Origin,
     /// A foreign cache answers fetch 33, with the body `one`.
@@ -38,6 +41,8 @@ enum Happens {
     Octets(u16, &'static [u8]),
     /// A purge is issued.
     Issue,
+    /// This member is admitted.
+    Admit(u8),
     /// The datagram of this number comes.
     Datagram(u64),
 }
@@ -56,7 +61,9 @@ struct Page {
 #[derive(Clone, Copy, Debug, PartialEq, Eq)]
 struct Told {
     page: Option<Page>,
+    bare: Option<u16>,
     purge: Option<u32>,
+    admitted: Option<u32>,
     status: Option<(u32, Status)>,
     round: Option<u32>,
     read: Option<u32>,
@@ -67,7 +74,9 @@ struct Told {
 /// Nothing is told.
 const NOTHING: Told = Told {
     page: None,
+    bare: None,
     purge: None,
+    admitted: None,
     status: None,
     round: None,
     read: None,
@@ -235,6 +244,126 @@ const ACKNOWLEDGED: &[Step] = &[(
     }),
 )];
 
+/// The second member joins: it serves nothing until the number of its admission has come, and its
+/// acknowledgement makes the admission done. A purge before that needs the first member alone.
+const ADMITTED: &[Step] = &[
+    (
+        Happens::ClientOfSecond,
+        Ok(Told {
+            bare: Some(503),
+            ..NOTHING
+        }),
+    ),
+    (
+        Happens::Client,
+        Ok(Told {
+            round: Some(32),
+            sent: 1,
+            last: 1,
+            ..NOTHING
+        }),
+    ),
+    (
+        Happens::Datagram(1),
+        Ok(Told {
+            sent: 1,
+            last: 2,
+            ..NOTHING
+        }),
+    ),
+    (
+        Happens::Datagram(2),
+        Ok(Told {
+            read: Some(33),
+            ..NOTHING
+        }),
+    ),
+    (
+        Happens::Origin,
+        Ok(Told {
+            page: Some(Page {
+                mark: 4,
+                ..THE_PAGE
+            }),
+            ..NOTHING
+        }),
+    ),
+    (
+        Happens::Issue,
+        Ok(Told {
+            purge: Some(1),
+            sent: 1,
+            last: 3,
+            ..NOTHING
+        }),
+    ),
+    (
+        Happens::Admit(2),
+        Ok(Told {
+            admitted: Some(2),
+            sent: 1,
+            last: 4,
+            ..NOTHING
+        }),
+    ),
+    (
+        Happens::Issue,
+        Ok(Told {
+            purge: Some(3),
+            sent: 2,
+            last: 6,
+            ..NOTHING
+        }),
+    ),
+    (
+        Happens::Datagram(6),
+        Ok(Told {
+            sent: 1,
+            last: 7,
+            ..NOTHING
+        }),
+    ),
+    (
+        Happens::ClientOfSecond,
+        Ok(Told {
+            bare: Some(503),
+            ..NOTHING
+        }),
+    ),
+    (
+        Happens::Datagram(4),
+        Ok(Told {
+            sent: 1,
+            last: 8,
+            ..NOTHING
+        }),
+    ),
+    (
+        Happens::Datagram(8),
+        Ok(Told {
+            status: Some((2, Status::Done)),
+            ..NOTHING
+        }),
+    ),
+    (
+        Happens::ClientOfSecond,
+        Ok(Told {
+            round: Some(32),
+            sent: 1,
+            last: 9,
+            ..NOTHING
+        }),
+    ),
+    (
+        Happens::Datagram(9),
+        Ok(Told {
+            sent: 1,
+            last: 10,
+            ..NOTHING
+        }),
+    ),
+];
+
 /// Events of which the first is none.
 const WRONG: &[Step] = &[
     (Happens::Origin, Err(WorldFault::NotPending)),
@@ -269,6 +398,10 @@ fn event_of(alloc: Global, happens: Happens) -> Result<WorldEvent, Fail> {
             node: 1,
             ask: ask_of(alloc, URL, false, None)?,
         }),
+        Happens::ClientOfSecond => Ok(WorldEvent::Client {
+            node: 2,
+            ask: ask_of(alloc, URL, false, None)?,
+        }),
         Happens::Origin => Ok(WorldEvent::Origin {
             node: 1,
             serial: 33,
@@ -293,6 +426,7 @@ fn event_of(alloc: Global, happens: Happens) -> Result<WorldEvent, Fail> {
         Happens::Issue => Ok(WorldEvent::Issue {
             key: key_of(alloc, URL)?,
         }),
+        Happens::Admit(node) => Ok(WorldEvent::Admit { node }),
         Happens::Datagram(number) => Ok(WorldEvent::Datagram { number }),
     }
 }
@@ -310,6 +444,14 @@ fn page_of(serve: &Serve<u64>) -> Option<Page> {
     }
 }
 
+/// The bare status that is served, where it is no copy.
+fn bare_of(serve: &Serve<u64>) -> Option<u16> {
+    match &serve.served {
+        Served::Copy { .. } => None,
+        Served::Status(status) => Some(*status),
+    }
+}
+
 /// What is told of an outcome.
 fn told_of(outcome: &Outcome) -> Told {
     let sent = outcome.sent.as_slice();
@@ -318,7 +460,12 @@ fn told_of(outcome: &Outcome) -> Told {
             Some(serve) => page_of(serve),
             None => None,
         },
+        bare: match &outcome.serve {
+            Some(serve) => bare_of(serve),
+            None => None,
+        },
         purge: outcome.purge,
+        admitted: outcome.admitted,
         status: outcome.status,
         round: outcome.round,
         read: outcome.read,
@@ -439,6 +586,8 @@ fn strangers_foreign_caches_and_lists(rt: HostRuntime) -> Result<(), Fail> {
     assert!(rt; other.is_none(), "octets: {other:?}");
     let other = other_in(rt.alloc(), FOREIGN, FOREIGN_ANSWERS, false)?;
     assert!(rt; other.is_none(), "a foreign cache: {other:?}");
+    let other = other_in(rt.alloc(), JOINING, ADMITTED, false)?;
+    assert!(rt; other.is_none(), "an admission: {other:?}");
     let other = other_in_list(rt.alloc())?;
     assert!(rt; other.is_none(), "a list: {other:?}");
     let fault = fault_in_list(rt.alloc(), WRONG)?;

@@ -115,7 +115,8 @@ early_is_no_memory text fault e memory = elim (cases_Bool (nat_lt 1024 (length t
 ]
 
 -- an http URI is in the absolute form
-absolute : (text : List ℕ) (s a : Option (List ℕ)) (kept : List ℕ) → s ≡ Some (codes "http") → IsForm text s a kept → (authority : List ℕ) × (a ≡ Some authority) × IsAbsoluteForm text (codes "http") authority kept
+absolute : (text : List ℕ) (s a : Option (List ℕ)) (kept : List ℕ) → s ≡ Some (codes "http") → IsForm text s a kept → (authority : List ℕ)
+    × (a ≡ Some authority) × IsAbsoluteForm text (codes "http") authority kept
 absolute text None a kept e form = cc
 absolute text (Some s) None kept e form = absurd form
 absolute text (Some s) (Some authority) kept e form =
@@ -180,7 +181,13 @@ module _ (text key : List ℕ) (u : Uri) (early : Early text) (spells : Spells t
       let w_short = lengths.0 in
       let old = ap length form.spelled in
       let short = early.short in (
-        omega (arith, simp length-append at old, length-append (form.name ++ codes "://" ++ w) form.tail, length-append (form.name ++ codes "://") w, length-append form.name (codes "://")),
+        omega (
+          arith,
+          simp length-append at old,
+          length-append (form.name ++ codes "://" ++ w) form.tail,
+          length-append (form.name ++ codes "://") w,
+          length-append form.name (codes "://"),
+        ),
         subst (λ s. IsForm new_text s (Some w) (uri_data u)) (sym scheme_is) (record {
           name = form.name;
           tail = form.tail;

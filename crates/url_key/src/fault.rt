@@ -33,8 +33,8 @@ pub enum KeyFault {
     /// The host is empty (RFC 9110, section 4.2.1).
     #[error("the host is empty")]
     NoHost,
-    /// What follows the host is neither nothing nor `:` and 1 to 5 digits of a value from 1 to
-    /// 65535.
+    /// What follows the host is neither nothing, nor `:` alone, nor `:` and 1 to 5 digits of a
+    /// value from 1 to 65535.
     #[error("the port is not a number of 1 to 65535")]
     BadPort,
     /// An allocation failed.

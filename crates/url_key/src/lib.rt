@@ -3,15 +3,14 @@
 //! Two URLs share one key if they differ only in these points (RFC 9110, section 4.2.3):
 //!
 //! - the case of the scheme or the host,
-//! - whether port 80 is written, and leading zeros of the port,
+//! - whether port 80 is written, or a `:` without a port, and leading zeros of the port,
 //! - whether an empty path is written as `/`.
 //!
 //! A key is `http://`, the host in lower case, `:` and the port unless it is 80, the path, and `?`
 //! with the query if there is one.
 //!
 //! Two equivalences of RFC 3986, section 6.2.2 are not applied: percent-encoded octets stay as they
-//! came, so `/~a` and `/%7Ea` have two keys; and `.` and `..` stay in paths. An empty port
-//! (`http://o:/`) is refused as `BadPort`, though RFC 9110, section 4.2.1 reads it as 80.
+//! came, so `/~a` and `/%7Ea` have two keys; and `.` and `..` stay in paths.
 //!
 //! - [`Key`]: read from a text by [`Key::read`]. `text`, `host`, `port`, `authority` and
 //!   `path_and_query` allocate nothing. Keys compare, order and hash as their texts.

@@ -1,13 +1,13 @@
 //! Cuts an authority and a key's text into their parts, and writes a key's text.
 ghost use Rattle.std.specs.Prelude.{◌≡◌, ◌==◌, ◌<◌, ◌≤◌, ◌++◌, length, codes, [], IfOk, OnOk};
-ghost use Rattle.std.specs.Prelude.{IsTrue, Some, None, option_copied, if◌then◌else◌};
+ghost use Rattle.std.specs.Prelude.{IsTrue, option_copied};
 ghost use Rattle.std.specs.List.{list_all, list_any};
 ghost use Rattle.std.specs.Char.{is_ascii_digit};
 ghost use Rattle.std.specs.Str.Parse.{digits_value};
 ghost use Rattle.http_uri.specs.ByteClasses as bytes;
 ghost use Rattle.http_uri.specs.ByteClasses.{framed_text};
 ghost use Rattle.http_uri.specs.Grammar.{authority_len};
-ghost use Rattle.url_key.specs.Text.{is_visible, is_port, port_of as port_named};
+ghost use Rattle.url_key.specs.Text.{is_visible, port_by as port_written, port_of as port_named};
 ghost use Rattle.url_key.specs.Text.{host_of as host_named, after_host as behind_host};
 ghost use Rattle.url_key.specs.Text.{key_authority, key_path};
 ghost use Rattle.url_key.specs.Text.{canonical_text as text_of_key, http_prefix, port_text};
@@ -85,8 +85,8 @@ fn number_of(digits: &[u8]) -> u32
     number
 }
 
-/// The port that follows a host: 80 if nothing follows, `None` if what follows is not `:` and a
-/// port from 1 to 65535.
+/// The port that follows a host: 80 if nothing or `:` alone follows, `None` if what follows is not
+/// `:` and a port from 1 to 65535.
 pub(crate) fn port_of(rest: &[u8]) -> Option<u16>
     ensures { result ≡ port_named rest.now }
 {
@@ -100,11 +100,15 @@ pub(crate) fn port_of(rest: &[u8]) -> Option<u16>
     }
 }
 
-/// The port that 1 to 5 digits spell. `None` for 0, for more than 65535, and for anything else.
+/// The port that 1 to 5 digits spell, 80 if there are none. `None` for 0, for more than 65535, and
+/// for anything else.
 fn port_number(digits: &[u8]) -> Option<u16>
-    ensures { result ≡ (if is_port digits.now then Some (digits_value 10 digits.now) else None) }
+    ensures { result ≡ port_written digits.now }
 {
-    if digits.is_empty() || digits.len() > 5 || !all_digits(digits) {
+    if digits.is_empty() {
+        return Some(HTTP_PORT);
+    }
+    if digits.len() > 5 || !all_digits(digits) {
         return None;
     }
     let port = number_of(digits);

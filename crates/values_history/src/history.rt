@@ -86,7 +86,8 @@ impl<E> Known<E> {
     /// Returns whether they are; else nothing is added.
     fn extend<X, M: Entry<X, E>>(&mut self, head: &Word<E, u64, Law>, value: &X) -> bool
         requires head { head.now ≡ head_of self.old.seen.book }
-        ensures added { MatchBool result (self.new.seen.log ≡ self.old.seen.log ++ M.of value.now ∷ [])
+        ensures added { MatchBool result
+            (self.new.seen.log ≡ self.old.seen.log ++ M.of value.now ∷ [])
             (self.new.seen ≡ self.old.seen) }
         ensures book { self.new.seen.book ≡ self.old.seen.book }
         ensures bound { length self.new.seen.log < 2 ^ 64 }
@@ -160,7 +161,8 @@ impl<E, J: Run> Front<E, J> {
 
     /// [`Front::add_as`] with an entry that is at hand.
     pub fn add(&mut self, head: &Head<E, J>, entry: &E) -> bool
-        ensures added { MatchBool result (self.new ≡ self.old ++ entry.now ∷ []) (self.new ≡ self.old) }
+        ensures added { MatchBool result (self.new ≡ self.old ++ entry.now ∷ [])
+            (self.new ≡ self.old) }
         ensures bound { length self.new < 2 ^ 64 }
     {
         self.add_as::<E, Itself>(head, entry)
@@ -169,7 +171,8 @@ impl<E, J: Run> Front<E, J> {
     /// Adds the entry of a value to the history, where this front is the whole of it. Returns
     /// whether it is; else nothing is added.
     pub fn add_as<X, M: Entry<X, E>>(&mut self, head: &Head<E, J>, value: &X) -> bool
-        ensures added { MatchBool result (self.new ≡ self.old ++ M.of value.now ∷ []) (self.new ≡ self.old) }
+        ensures added { MatchBool result (self.new ≡ self.old ++ M.of value.now ∷ [])
+            (self.new ≡ self.old) }
         ensures bound { length self.new < 2 ^ 64 }
     {
         self.known.extend::<X, M>(&head.word, value)
@@ -210,7 +213,8 @@ impl<E> Own<E> {
     /// Adds the entry of a value. Returns whether it is added, which it always is, unless there are
     /// 2^64 - 1 already; else nothing changes.
     pub fn add_as<X, M: Entry<X, E>>(&mut self, value: &X) -> bool
-        ensures { MatchBool result (self.new ≡ self.old ++ M.of value.now ∷ []) (self.new ≡ self.old) }
+        ensures { MatchBool result (self.new ≡ self.old ++ M.of value.now ∷ [])
+            (self.new ≡ self.old) }
     {
         self.known.extend::<X, M>(&self.head, value)
     }

@@ -1,9 +1,10 @@
 -- Lists of entries, and of keys, that are read one after another say what the whole list says; one
--- bad entry makes the whole list bad.
+-- bad entry makes the whole list bad. A test that some entry passes is passed by at least one.
 use Rattle.std.proofs.Common.{◌≡◌, ℕ, ◌+◌, ◌<◌, zero, suc, ◌&&◌, List, [], ◌∷◌, ◌++◌, length, take, get_or, Option, Some, None, option_and_then, String, Global}
-use Rattle.std.proofs.Common.{string_bytes, refl, ap, arith}
+use Rattle.std.proofs.Common.{string_bytes, Bool, filter, inl, inr, nat_le, le-leb, refl, sym, ap, arith}
+use Rattle.std.proofs.lemmas.Bool.{cases_Bool}
 use Rattle.std.proofs.lemmas.List.{take_more}
-use Rattle.std.specs.List.{list_all}
+use Rattle.std.specs.List.{list_all, list_any}
 use Rattle.std.specs.Map.{keys_of}
 use Rattle.toml.specs.Data.{Data}
 use Rattle.toml.specs.View.{view, items_view, members_view}
@@ -66,3 +67,11 @@ pub has_only-keys : (keys : List (List ℕ)) (es : List (String Global × Value)
     (members_view es)
 has_only-keys keys [] = refl
 has_only-keys keys (e ∷ es) = ap (λ b. is_among keys (string_bytes e.0) && b) (has_only-keys keys es)
+
+-- a test that some entry passes is passed by at least one
+pub at_least_one : {A : Type 0} (test : A → Bool) (xs : List A) → list_any test xs ≡ nat_le 1 (length (filter test xs))
+at_least_one test [] = refl
+at_least_one test (x ∷ xs) = elim (cases_Bool (test x)) [
+  | inl passes ↦ rw passes (sym (le-leb 1 (suc (length (filter test xs))) (omega arith)))
+  | inr fails ↦ rw fails (at_least_one test xs)
+]

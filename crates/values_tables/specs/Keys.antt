@@ -5,7 +5,7 @@ use Rattle.toml.specs.Data.{Members, no_members, member}
 use Rattle.values_tables.specs.declared.place.TableKind.{TableKind}
 use Rattle.values_tables.specs.declared.place.TableKind.TheVariants.{Top, Master, Node, Peer, Foreign, Origin}
 
--- the keys of the table of a cache; that of a member also has `peer`
+-- the keys of the table of a cache; that of a member also has `joins` and `peer`
 abbrev pub keys_of_cache : List (List ℕ)
 keys_of_cache = codes "id" ∷ codes "name" ∷ codes "address" ∷ codes "http" ∷ codes "icp" ∷ codes "htcp" ∷ []
 
@@ -15,7 +15,7 @@ keys_of Top = codes "default_lifetime" ∷ codes "copies" ∷ codes "bytes" ∷ 
     ∷ codes "answer_wait" ∷ codes "fetch_wait" ∷ codes "ask_wait" ∷ codes "fetches_per_address"
     ∷ codes "clients_per_address" ∷ codes "master" ∷ codes "node" ∷ codes "foreign" ∷ codes "origin" ∷ []
 keys_of Master = codes "address" ∷ codes "htcp" ∷ []
-keys_of Node = codes "peer" ∷ keys_of_cache
+keys_of Node = codes "joins" ∷ codes "peer" ∷ keys_of_cache
 keys_of Peer = codes "id" ∷ codes "role" ∷ codes "by" ∷ []
 keys_of Foreign = keys_of_cache
 keys_of Origin = codes "host" ∷ codes "port" ∷ codes "address" ∷ codes "connect" ∷ []

@@ -1,5 +1,5 @@
 -- The ranges of the values in the tables of a roster. `are_tables` is the whole.
-use Rattle.std.specs.Prelude.{ℕ, Bool, ◌&&◌, ◌||◌, ◌==◌, nat_le, List, length}
+use Rattle.std.specs.Prelude.{ℕ, Bool, not, ◌&&◌, ◌||◌, ◌==◌, nat_le, List, length, filter}
 use Rattle.std.specs.List.{list_all}
 use Rattle.std.specs.Char.{is_ascii_digit, is_ascii_lowercase}
 use Rattle.values_tables.specs.declared.plain.Limits.{Limits}
@@ -62,6 +62,14 @@ is_peer p = is_peer_id p.id
 abbrev pub is_member : Member → Bool
 is_member m = is_member_id m.cache.id && is_cache m.cache && list_all is_peer m.peers
 
+-- the member is founding: it does not join
+abbrev pub is_founding : Member → Bool
+is_founding m = not m.joins
+
+-- at least one of the members is founding
+abbrev pub has_founding : List Member → Bool
+has_founding members = nat_le 1 (length (filter is_founding members))
+
 -- an origin: host, the port that URLs name, and the port to connect to
 abbrev pub is_origin : Origin → Bool
 is_origin o = is_host o.host && is_port o.port && is_port o.connect.port
@@ -75,7 +83,7 @@ are_limits l = nat_le l.default_lifetime 2147483648 && is_between 1 65536 l.copi
     && is_between 1 60000 l.answer_wait && is_between 1 60000 l.fetch_wait && is_between 1 600000 l.ask_wait
     && is_between 1 1024 l.fetches_per_address && is_between 1 1024 l.clients_per_address
 
--- everything is in its range, and there is at least one member
+-- everything is in its range, and at least one member is founding
 abbrev pub are_tables : Tables → Bool
-are_tables t = are_limits t.limits && is_port t.master.port && nat_le 1 (length t.members)
+are_tables t = are_limits t.limits && is_port t.master.port && has_founding t.members
     && list_all is_member t.members && list_all is_foreign t.foreign && list_all is_origin t.origins

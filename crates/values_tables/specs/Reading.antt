@@ -1,9 +1,9 @@
 -- What the tables of a TOML document say of a roster: `tables_in` for a text, `tables_of` for a
 -- document. A value is None if a key is missing, unknown, of another type or out of its range.
-use Rattle.std.specs.Prelude.{ℕ, ◌+◌, ◌*◌, pos, negsuc, ℤ, Bool, bytes_eq, nat_le, List, [], ◌∷◌, length, slice_index, codes, Option, Some, None}
-use Rattle.std.specs.Prelude.{option_and_then, option_map, if◌then◌else◌}
+use Rattle.std.specs.Prelude.{ℕ, ◌+◌, ◌*◌, pos, negsuc, ℤ, Bool, false, bytes_eq, List, [], ◌∷◌, slice_index, codes, Option, Some, None, option_and_then}
+use Rattle.std.specs.Prelude.{option_map, if◌then◌else◌}
 use Rattle.std.specs.Net.Reader.{read_ipv4}
-use Rattle.toml.specs.Data.{Data, string, integer, array, table, Items, no_items, item, Members, get_member}
+use Rattle.toml.specs.Data.{Data, string, integer, boolean, array, table, Items, no_items, item, Members, get_member}
 use Rattle.toml.specs.Parse.{parse_document}
 use Rattle.values_tables.specs.declared.place.TableKind.{TableKind}
 use Rattle.values_tables.specs.declared.place.TableKind.TheVariants as kind
@@ -19,7 +19,7 @@ use Rattle.values_tables.specs.declared.plain.Member.{Member}
 use Rattle.values_tables.specs.declared.plain.Origin.{Origin}
 use Rattle.values_tables.specs.declared.plain.Tables.{Tables}
 use Rattle.values_tables.specs.Keys.{keys_of, has_only}
-use Rattle.values_tables.specs.Ranges.{is_between, is_name, is_host, is_peer_id}
+use Rattle.values_tables.specs.Ranges.{is_between, is_name, is_host, is_peer_id, has_founding}
 
 -- what is made of a value, where there is one
 infixl 10 ◌>>=◌
@@ -57,6 +57,12 @@ given_or usual given (Some d) = given
 -- the number at a key, in a range; the usual one where there is no such key
 abbrev pub number_or : ℕ → ℕ → ℕ → List ℕ → Members → Option ℕ
 number_or low high usual key ms = given_or usual (number low high key ms) (get_member key ms)
+
+-- the value, if it is true or false; false where there is no value
+abbrev pub flag_in : Option Data → Option Bool
+flag_in None = Some false
+flag_in (Some (boolean b)) = Some b
+flag_in (Some _) = None
 
 -- the port at a key, 1 to 65535
 abbrev pub port : List ℕ → Members → Option ℕ
@@ -147,8 +153,9 @@ abbrev pub member_of : Data → Option Member
 member_of d = do
   ms ← table_in kind.Node (Some d)
   cache ← cache_of 1 16 ms
+  joins ← flag_in (get_member (codes "joins") ms)
   peers ← list_in peer_of (get_member (codes "peer") ms)
-  Some (record { cache = cache; peers = peers })
+  Some (record { cache = cache; joins = joins; peers = peers })
 
 -- the cache that a `[[foreign]]` table says
 abbrev pub foreign_of : Data → Option Cache
@@ -196,9 +203,9 @@ limits_of ms = do
     clients_per_address = clients_per_address;
   })
 
--- the members, at least one
+-- the members, at least one of them founding
 abbrev pub members_of : Members → Option (List Member)
-members_of ms = list_in member_of (get_member (codes "node") ms) >>= checked (λ members. nat_le 1 (length members))
+members_of ms = list_in member_of (get_member (codes "node") ms) >>= checked has_founding
 
 -- what a document says, None if a field is bad
 abbrev pub tables_of : Members → Option Tables

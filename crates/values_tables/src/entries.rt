@@ -13,7 +13,7 @@ ghost use Rattle.values_tables.specs.Reading.{table_in, peer_of, cache_of, forei
 ghost use Rattle.values_tables.specs.Reading.{origin_of, list_in, all_of, number as number_within};
 ghost use Rattle.values_tables.specs.Reading.{checked};
 
-use crate::fields::{host, ip, name, number, port, role, udp, value_at};
+use crate::fields::{flag, host, ip, name, number, port, role, udp, value_at};
 use crate::{Cache, Member, Origin, Peer, TableKind, TablesFault, TextPlace};
 use std::alloc::Global;
 use toml::{Table, Value};
@@ -58,7 +58,7 @@ fn is_key(kind: TableKind, key: &str) -> bool
                 || key == "origin"
         }
         TableKind::Master => key == "address" || key == "htcp",
-        TableKind::Node => key == "peer" || is_cache_key(key),
+        TableKind::Node => key == "joins" || key == "peer" || is_cache_key(key),
         TableKind::Peer => key == "id" || key == "role" || key == "by",
         TableKind::Foreign => is_cache_key(key),
         TableKind::Origin => {
@@ -148,10 +148,12 @@ impl Entry for Peer {
 /// The id of a peer: 1 to 16 or 101 to 108.
 fn peer_id(table: &Table, place: TextPlace) -> Result<u8, TablesFault>
     ensures { MatchResult result
-        (λ id. (option_and_then (checked may_be_peer) (number_within 1 108 (codes "id") (table_view table.now)) ≡ Some id)
+        (λ id. (option_and_then (checked may_be_peer)
+        (number_within 1 108 (codes "id") (table_view table.now)) ≡ Some id)
         × (may_be_peer id ≡ true))
         (λ fault. IsFieldFault fault
-        (option_and_then (checked may_be_peer) (number_within 1 108 (codes "id") (table_view table.now)) ≡ None)) }
+        (option_and_then (checked may_be_peer)
+        (number_within 1 108 (codes "id") (table_view table.now)) ≡ None)) }
 {
     let id = number(table, "id", 1, 108, place)?;
     if id <= 16 || 101 <= id {
@@ -228,8 +230,13 @@ impl Entry for Member {
     fn read(alloc: Global, value: &Value, place: TextPlace) -> Result<Member, TablesFault> {
         let table = table_of(TableKind::Node, Some(value), place)?;
         let cache = read_cache(alloc, table, 1, 16, place)?;
+        let joins = flag(table, "joins", place)?;
         let peers = read_list(alloc, table, "peer", place.peers())?;
-        Ok(Member { cache, peers })
+        Ok(Member {
+            cache,
+            joins,
+            peers,
+        })
     }
 }
 

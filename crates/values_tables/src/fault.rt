@@ -8,7 +8,7 @@ use std::alloc::AllocError;
 pub enum TablesFault {
     /// The text is no TOML document.
     BadToml(TextPlace),
-    /// A key is missing, unknown, of another type or out of its range, or there is no node. If
+    /// A key is missing, unknown, of another type or out of its range, or no node is founding. If
     /// several fields are bad, any one of them may be named.
     BadField(TextPlace),
     /// An allocation failed.

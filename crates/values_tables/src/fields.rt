@@ -1,4 +1,4 @@
-//! Reads one field of a table: a number, a text or an address at a key.
+//! Reads one field of a table: a number, a flag, a text or an address at a key.
 ghost use Rattle.std.specs.Prelude.{◌≡◌, true, false, MatchResult, Some, None, codes, option_map};
 ghost use Rattle.std.specs.Prelude.{option_and_then};
 ghost use Rattle.std.specs.List.{list_all};
@@ -10,7 +10,7 @@ ghost use Rattle.values_tables.specs.Ranges.{is_between, is_port};
 ghost use Rattle.values_tables.specs.Ranges.{is_name_letter as is_letter_of_name};
 ghost use Rattle.values_tables.specs.Ranges.{is_host_letter as is_letter_of_host};
 ghost use Rattle.values_tables.specs.Ranges.{is_name as is_name_text, is_host as is_host_text};
-ghost use Rattle.values_tables.specs.Reading.{natural_in, natural_of, text_in, ip_value};
+ghost use Rattle.values_tables.specs.Reading.{natural_in, natural_of, text_in, flag_in, ip_value};
 ghost use Rattle.values_tables.specs.Reading.{port as port_at, role_of, udp_of};
 ghost use Rattle.values_tables.specs.Reading.{number as number_within};
 ghost use Rattle.values_tables.specs.Reading.{number_or as number_within_or, ip_of as ip_of_text};
@@ -98,6 +98,20 @@ pub(crate) fn number_or(
     match value_at(table, key) {
         None => Ok(usual),
         Some(_) => number(table, key, range.0, range.1, place),
+    }
+}
+
+/// Whether the value at a key is true; `false` where the table has no such key.
+pub(crate) fn flag(table: &Table, key: &'static str, place: TextPlace) -> Result<bool, TablesFault>
+    ensures { MatchResult result
+        (λ b. flag_in (get_member key.now (table_view table.now)) ≡ Some b)
+        (λ fault. IsFieldFault fault (flag_in (get_member key.now (table_view table.now))
+        ≡ None)) }
+{
+    match value_at(table, key) {
+        None => Ok(false),
+        Some(Value::Boolean(is_true)) => Ok(*is_true),
+        Some(_) => Err(place.fault_at(key)),
     }
 }
 
@@ -198,8 +212,10 @@ pub(crate) fn name(
     place: TextPlace,
 ) -> Result<Listed<u8>, TablesFault>
     ensures { MatchResult result
-        (λ name. (text_where is_name_text (codes "name") (table_view table.now) ≡ Some name) × (is_name_text name ≡ true))
-        (λ fault. IsFieldFault fault (text_where is_name_text (codes "name") (table_view table.now) ≡ None)) }
+        (λ name. (text_where is_name_text (codes "name") (table_view table.now) ≡ Some name)
+        × (is_name_text name ≡ true))
+        (λ fault. IsFieldFault fault
+        (text_where is_name_text (codes "name") (table_view table.now) ≡ None)) }
 {
     match text_at(table, "name") {
         Some(text) if is_name(text) => Ok(Listed::new(Vec::from_slice(alloc, text)?)),
@@ -214,8 +230,10 @@ pub(crate) fn host(
     place: TextPlace,
 ) -> Result<Listed<u8>, TablesFault>
     ensures { MatchResult result
-        (λ host. (text_where is_host_text (codes "host") (table_view table.now) ≡ Some host) × (is_host_text host ≡ true))
-        (λ fault. IsFieldFault fault (text_where is_host_text (codes "host") (table_view table.now) ≡ None)) }
+        (λ host. (text_where is_host_text (codes "host") (table_view table.now) ≡ Some host)
+        × (is_host_text host ≡ true))
+        (λ fault. IsFieldFault fault
+        (text_where is_host_text (codes "host") (table_view table.now) ≡ None)) }
 {
     match text_at(table, "host") {
         Some(text) if is_host(text) => Ok(Listed::new(Vec::from_slice(alloc, text)?)),
@@ -226,9 +244,10 @@ pub(crate) fn host(
 /// The role at the key `role`.
 pub(crate) fn role(table: &Table, place: TextPlace) -> Result<Role, TablesFault>
     ensures { MatchResult result
-        (λ role. option_and_then role_of (text_in (get_member (codes "role") (table_view table.now))) ≡ Some role)
-        (λ fault. IsFieldFault fault
-        (option_and_then role_of (text_in (get_member (codes "role") (table_view table.now))) ≡ None)) }
+        (λ role. option_and_then role_of
+        (text_in (get_member (codes "role") (table_view table.now))) ≡ Some role)
+        (λ fault. IsFieldFault fault (option_and_then role_of
+        (text_in (get_member (codes "role") (table_view table.now))) ≡ None)) }
 {
     match text_at(table, "role") {
         Some(word) if word == b"sibling".as_slice() => Ok(Role::Sibling),
@@ -240,9 +259,10 @@ pub(crate) fn role(table: &Table, place: TextPlace) -> Result<Role, TablesFault>
 /// The protocol at the key `by`.
 pub(crate) fn udp(table: &Table, place: TextPlace) -> Result<Udp, TablesFault>
     ensures { MatchResult result
-        (λ by. option_and_then udp_of (text_in (get_member (codes "by") (table_view table.now))) ≡ Some by)
-        (λ fault. IsFieldFault fault
-        (option_and_then udp_of (text_in (get_member (codes "by") (table_view table.now))) ≡ None)) }
+        (λ by. option_and_then udp_of
+        (text_in (get_member (codes "by") (table_view table.now))) ≡ Some by)
+        (λ fault. IsFieldFault fault (option_and_then udp_of
+        (text_in (get_member (codes "by") (table_view table.now))) ≡ None)) }
 {
     match text_at(table, "by") {
         Some(word) if word == b"icp".as_slice() => Ok(Udp::Icp),

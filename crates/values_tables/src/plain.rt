@@ -66,6 +66,9 @@ pub struct Cache {
 pub struct Member {
     /// The cache.
     pub cache: Cache,
+    /// Whether it is joining: it takes part once the master of purges has admitted it. Else it is
+    /// founding. `false` unless the roster says otherwise.
+    pub joins: bool,
     /// Its peers, in the order in which it asks them.
     pub peers: Listed<Peer>,
 }
@@ -116,7 +119,7 @@ pub struct Tables {
     pub limits: Limits,
     /// The address of the master of purges, over UDP.
     pub master: Address,
-    /// The caches of the hierarchy, in the order of the text. There is at least one.
+    /// The caches of the hierarchy, in the order of the text. At least one is founding.
     pub members: Listed<Member>,
     /// Caches of others, which members may ask, in the order of the text.
     pub foreign: Listed<Cache>,

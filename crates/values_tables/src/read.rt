@@ -1,12 +1,14 @@
 //! Reads the whole document.
 ghost use Rattle.std.specs.Prelude.{◌≡◌, true, MatchResult, Some, None, IfOk, IfErr, option_map};
-ghost use Rattle.std.specs.Prelude.{option_and_then, codes, nat_le, length};
-ghost use Rattle.std.specs.List.{list_all};
+ghost use Rattle.std.specs.Prelude.{option_and_then, codes};
+ghost use Rattle.std.specs.List.{list_all, list_any};
 ghost use Rattle.toml.specs.Data.{get_member};
 ghost use Rattle.toml.specs.View.{view, table_view};
 ghost use Rattle.values_tables.specs.Fault.{IsFieldFault, IsReason, IsBadToml};
 ghost use Rattle.values_tables.specs.Keys.{keys_of, has_only};
-ghost use Rattle.values_tables.specs.Ranges.{are_limits, are_tables, is_port, is_member};
+ghost use Rattle.values_tables.specs.Ranges.{are_limits, are_tables};
+ghost use Rattle.values_tables.specs.Ranges.{has_founding as has_founding_member, is_founding};
+ghost use Rattle.values_tables.specs.Ranges.{is_port, is_member};
 ghost use Rattle.values_tables.specs.Reading.{tables_of as tables_in_document, tables_in};
 ghost use Rattle.values_tables.specs.Reading.{master_of, limits_of, members_of};
 
@@ -103,8 +105,10 @@ fn limits(table: &Table, place: TextPlace) -> Result<Limits, TablesFault>
 /// The address of the master.
 fn master(table: &Table) -> Result<Address, TablesFault>
     ensures { MatchResult result
-        (λ a. (master_of (get_member (codes "master") (table_view table.now)) ≡ Some a) × (is_port a.port ≡ true))
-        (λ fault. IsFieldFault fault (master_of (get_member (codes "master") (table_view table.now)) ≡ None)) }
+        (λ a. (master_of (get_member (codes "master") (table_view table.now)) ≡ Some a)
+        × (is_port a.port ≡ true))
+        (λ fault. IsFieldFault fault
+        (master_of (get_member (codes "master") (table_view table.now)) ≡ None)) }
 {
     let place = TextPlace::of(TableKind::Master);
     let master = table_of(TableKind::Master, value_at(table, "master"), place)?;
@@ -113,18 +117,34 @@ fn master(table: &Table) -> Result<Address, TablesFault>
     Ok(Address { ip, port })
 }
 
-/// The members, at least one.
+/// The members, at least one of them founding.
 fn members(alloc: Global, table: &Table) -> Result<Listed<Member>, TablesFault>
     ensures { MatchResult result
-        (λ ms. (members_of (table_view table.now) ≡ Some ms) × (nat_le 1 (length ms) ≡ true)
+        (λ ms. (members_of (table_view table.now) ≡ Some ms) × (has_founding_member ms ≡ true)
         × (list_all is_member ms ≡ true))
         (λ fault. IsFieldFault fault (members_of (table_view table.now) ≡ None)) }
 {
     let place = TextPlace::of(TableKind::Node);
     let members: Listed<Member> = read_list(alloc, table, "node", place)?;
-    if members.as_slice().is_empty() {
+    if has_founding(members.as_slice()) {
+        Ok(members)
+    } else if members.as_slice().is_empty() {
         Err(place.fault_at(""))
     } else {
-        Ok(members)
+        Err(place.fault_at("joins"))
     }
+}
+
+/// Whether any of the members is founding.
+fn any_founding(members: &[Member]) -> bool
+    ensures { result ≡ list_any is_founding members.now }
+{
+    members.iter().any(|member| !member.joins)
+}
+
+/// The same, counted as contracts see it.
+fn has_founding(members: &[Member]) -> bool
+    ensures { result ≡ has_founding_member members.now }
+{
+    any_founding(members)
 }

@@ -39,17 +39,21 @@ use Rattle.node_rules.specs.declared.event.Event.TheVariants as event
 use Rattle.node_rules.specs.declared.reply.Reply.{Reply}
 use Rattle.node_rules.specs.declared.reply.StepFault.{StepFault}
 use Rattle.node_rules.specs.Known.{has_origin, is_known}
-use Rattle.node_rules.specs.State.{Setting, Stepped, replies, refuses, quiet, ending, changing, is_idle, is_of_block, is_good, if_good, good_copy, served_age}
+use Rattle.node_rules.specs.declared.raising.Raise.{Raise}
+use Rattle.node_rules.specs.declared.raising.Raise.TheVariants.{Floor, Base}
+use Rattle.node_rules.specs.State.{Setting, Stepped, replies, refuses, quiet, is_outside, ending, changing, is_idle, is_of_block, is_good, if_good}
+use Rattle.node_rules.specs.State.{good_copy, served_age}
 use Rattle.node_rules.specs.Fetching.{fetching, ask_peer, begin_read, read_origin, go_to, go_on}
 use Rattle.node_rules.specs.Asks.{free_block, taking, new_ask, is_cached_only, begin_round, begin_with_read, ask_around, begin_ask, begin_if_free, not_held}
-use Rattle.node_rules.specs.Asks.{by_copy, copy_for, ask_comes}
+use Rattle.node_rules.specs.Asks.{by_copy, copy_for, ask_comes_to, ask_comes}
 use Rattle.node_rules.specs.Arrivals.{new_copy, not_fetching, with_round, use_answer, try_on, is_gateway_fault, peer_gave, origin_gave, from_peer}
 use Rattle.node_rules.specs.Arrivals.{peer_answer_to, peer_answer, foreign_answer, from_origin, origin_answer_to, origin_answer, fails, failure_of}
 use Rattle.node_rules.specs.Arrivals.{fetch_failed, round_moves, expires, expiry_of, round_expired}
-use Rattle.node_rules.specs.Datagrams.{purged, if_desired, icp_query, htcp_tst, hears, told_by, told_to, icp_told, htcp_told, purge, numbered_clr, dropped}
-use Rattle.node_rules.specs.Datagrams.{plain_clr, clr_by_line, htcp_clr, icp_comes, tst_refused, htcp_comes, datagram}
+use Rattle.node_rules.specs.Datagrams.{purged, if_desired, icp_query, htcp_tst, hears, told_by, told_to, icp_told, htcp_told, purge, rebased, rebase}
+use Rattle.node_rules.specs.Datagrams.{raising_clr, dropped}
+use Rattle.node_rules.specs.Datagrams.{plain_clr, clr_by_line, clr_by_lines, htcp_clr, icp_comes, tst_refused, htcp_comes, datagram}
 use Rattle.node_rules.specs.Step.{open_step, step_if, step}
-use Rattle.node_rules.specs.Relation.{Steps, Closes, ClosesOn, purge_in}
+use Rattle.node_rules.specs.Relation.{Steps, Closes, ClosesOn, raise_in}
 use Rattle.node_rules.proofs.Cases.{branches, unless_refused, same_Some}
 use Rattle.node_rules.proofs.FloorLaws.{same_text}
 use Rattle.node_rules.proofs.Pendings.{all_mapped, all_contained, found, found_passes, all_changed, all_left}
@@ -177,9 +181,14 @@ module _ {X : Type 0} (g : Setting) (s : NodeState X) (e : Event X) (mark : X) (
     by_copy_answers None key = not_held_answers
     by_copy_answers (Some c) key = plainly _ _ here (ap (served_age c) at, (ask, asks, sym (key c refl)))
 
+    ask_comes_to_answers : (outside : Bool) → Answers (ask_comes_to g s asker ask now mark outside)
+    unfolding ask_comes_to
+    ask_comes_to_answers true = plainly s _ here (ask.key, (ask, asks, refl))
+    ask_comes_to_answers false = by_copy_answers (copy_for s ask now) (copy_key s ask now)
+
     ask_comes_answers : Answers (ask_comes g s asker ask now mark)
     unfolding ask_comes
-    ask_comes_answers = by_copy_answers (copy_for s ask now) (copy_key s ask now)
+    ask_comes_answers = ask_comes_to_answers (is_outside g s)
 
   -- Arrivals
 
@@ -286,10 +295,15 @@ module _ {X : Type 0} (g : Setting) (s : NodeState X) (e : Event X) (mark : X) (
     unfolding purge
     purge_answers from trans desired key n = if_desired_answers (purged s key n) here desired from _
 
-    numbered_answers : (from : Address) (trans : ℕ) (desired : Bool) (o : Option (List ℕ × ℕ)) → Answers (numbered_clr s from trans desired o)
-    unfolding numbered_clr
-    numbered_answers from trans desired None = if_desired_answers s here desired from _
-    numbered_answers from trans desired (Some x) = purge_answers from trans desired x.0 x.1
+    rebase_answers : (from : Address) (trans : ℕ) (desired : Bool) (n : ℕ) → Answers (rebase s from trans desired n)
+    unfolding rebase
+    rebase_answers from trans desired n = if_desired_answers (rebased s n) here desired from _
+
+    raising_answers : (from : Address) (trans : ℕ) (desired : Bool) (o : Option Raise) → Answers (raising_clr s from trans desired o)
+    unfolding raising_clr
+    raising_answers from trans desired None = if_desired_answers s here desired from _
+    raising_answers from trans desired (Some (Floor key n)) = purge_answers from trans desired key n
+    raising_answers from trans desired (Some (Base n)) = rebase_answers from trans desired n
 
     dropped_goes_on : (key : Option (List ℕ)) → GoesOn (dropped s key)
     dropped_goes_on None = here
@@ -305,8 +319,15 @@ module _ {X : Type 0} (g : Setting) (s : NodeState X) (e : Event X) (mark : X) (
         Answers (clr_by_line g s from trans desired key line)
     unfolding clr_by_line
     clr_by_line_answers from trans desired key (Ok None) = plain_clr_answers from trans desired key
-    clr_by_line_answers from trans desired key (Ok (Some n)) = numbered_answers from trans desired _
+    clr_by_line_answers from trans desired key (Ok (Some n)) = raising_answers from trans desired _
     clr_by_line_answers from trans desired key (Err fault) = if_desired_answers s here desired from _
+
+    clr_by_lines_answers : (from : Address) (trans : ℕ) (desired : Bool) (key : Option (List ℕ)) (number base : Result (Option ℕ) HtcpFault) →
+        Answers (clr_by_lines g s from trans desired key number base)
+    unfolding clr_by_lines
+    clr_by_lines_answers from trans desired key number (Ok None) = clr_by_line_answers from trans desired key number
+    clr_by_lines_answers from trans desired key number (Ok (Some n)) = raising_answers from trans desired _
+    clr_by_lines_answers from trans desired key number (Err fault) = if_desired_answers s here desired from _
 
     htcp_told_answers : (from : Address) (trans : ℕ) (said : Peer → Said) → Answers (htcp_told g s from trans said now mark)
     unfolding htcp_told
@@ -328,7 +349,7 @@ module _ {X : Type 0} (g : Setting) (s : NodeState X) (e : Event X) (mark : X) (
     htcp_comes_answers from trans (content.TstAsk desired spec) = if_desired_answers s here desired from _
     htcp_comes_answers from trans (content.TstHit detail) = htcp_told_answers from trans _
     htcp_comes_answers from trans (content.TstMiss cache) = htcp_told_answers from trans _
-    htcp_comes_answers from trans (content.ClrAsk desired reason spec) = clr_by_line_answers from trans desired _ _
+    htcp_comes_answers from trans (content.ClrAsk desired reason spec) = clr_by_lines_answers from trans desired _ _ _
     htcp_comes_answers from trans (content.ClrAnswer code) = silent
     htcp_comes_answers from trans (content.Other opcode desired) = if_desired_answers s here desired from _
     htcp_comes_answers from trans (content.Overall opcode code) = tst_refused_answers from trans opcode
@@ -377,15 +398,15 @@ module _ {X : Type 0} (g : Setting) (s : NodeState X) (mark : X) where
   same_answers : (e : Event X) (f : StepFault) → AnswersSome s e (Err f) s
   same_answers e f = record { asks = stay e (Err f); opens = λ is_open. is_open; serves = tt }
 
-  closing_asks : (e : Event X) (f : StepFault) (o : Option (List ℕ × ℕ)) (next : NodeState X) → ClosesOn s o next →
+  closing_asks : (e : Event X) (f : StepFault) (o : Option Raise) (next : NodeState X) → ClosesOn s o next →
       AllByRecursion (IsAskAfter s e (Err f)) next.pending
   closing_asks e f None next h = absurd h
-  closing_asks e f (Some x) next h = subst (λ pending. AllByRecursion (IsAskAfter s e (Err f)) pending) (sym h.pending) tt
+  closing_asks e f (Some raise) next h = subst (λ pending. AllByRecursion (IsAskAfter s e (Err f)) pending) (sym h.pending) tt
 
   closing_answers : (e : Event X) (next : NodeState X) (f : StepFault) → Closes g s e next → AnswersSome s e (Err f) next
   closing_answers e next f h = record {
-    asks = closing_asks e f (purge_in g e) next h.1;
-    opens = λ is_open. absurd (closing_closes g s e mark (purge_in g e) next h.1 is_open);
+    asks = closing_asks e f (raise_in g e) next h.1;
+    opens = λ is_open. absurd (closing_closes g s e mark (raise_in g e) next h.1 is_open);
     serves = tt;
   }
 
@@ -424,11 +445,16 @@ module _ {X : Type 0} (g : Setting) (s : NodeState X) (mark : X) where
       branches TakesFree (is_cached_only g asker ask) _ _ (λ _. nothing _ refl) (λ _. if_free asker ask now (free_block s) refl)
   by_copy_free asker ask now (Some c) = nothing _ refl
 
+  ask_free : (asker : Option ℕ) (ask : Ask) (now : ℕ) (outside : Bool) → TakesFree (ask_comes_to g s asker ask now mark outside)
+  unfolding ask_comes_to
+  ask_free asker ask now true = nothing _ refl
+  ask_free asker ask now false = by_copy_free asker ask now _
+
   asked_free : (e : Event X) (asker : Option ℕ) (ask : Ask) → Asks e asker ask → (closed : Bool) → TakesFree (step_if g s e mark closed)
   unfolding step_if open_step ask_comes
   asked_free e asker ask asks true = nothing _ refl
-  asked_free (event.Client own now) asker ask asks false = by_copy_free None own now _
-  asked_free (event.PeerAsk member own now) asker ask asks false = by_copy_free (Some member) own now _
+  asked_free (event.Client own now) asker ask asks false = ask_free None own now _
+  asked_free (event.PeerAsk member own now) asker ask asks false = ask_free (Some member) own now _
   asked_free _ asker ask asks false = absurd asks
 
   step_free : (e : Event X) (asker : Option ℕ) (ask : Ask) → Asks e asker ask → TakesFree (step g s e mark)

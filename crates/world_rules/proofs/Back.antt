@@ -20,8 +20,8 @@ use Rattle.node_rules.specs.declared.event.Event.{Event}
 use Rattle.node_rules.specs.declared.event.Event.TheVariants as event
 use Rattle.node_rules.specs.declared.reply.Reply.{Reply}
 use Rattle.node_rules.specs.declared.reply.StepFault.{StepFault}
-use Rattle.node_rules.specs.State.{Setting, Stepped}
-use Rattle.node_rules.specs.Asks.{is_cached_only, not_held, by_copy, copy_for, ask_comes}
+use Rattle.node_rules.specs.State.{Setting, Stepped, is_outside}
+use Rattle.node_rules.specs.Asks.{is_cached_only, not_held, by_copy, copy_for, ask_comes_to, ask_comes}
 use Rattle.node_rules.specs.Datagrams.{if_desired, icp_query, htcp_tst, icp_comes, htcp_comes, datagram}
 use Rattle.node_rules.specs.Step.{open_step, step_if, step}
 use Rattle.node_rules.specs.Relation.{Steps}
@@ -61,6 +61,12 @@ module _ {X : Type 0} (g : Setting) (s : NodeState X) where
   by_copy_silent asker ask now mark None h = not_held_silent asker ask now mark h
   by_copy_silent asker ask now mark (Some c) h = record { none = refl }
 
+  ask_silent : (asker : ℕ) (ask : Ask) (now : ℕ) (mark : X) (outside : Bool) → names_sibling g.roster asker g.id ≡ true →
+      IsSilent (ask_comes_to g s (Some asker) ask now mark outside)
+  unfolding ask_comes_to
+  ask_silent asker ask now mark true h = record { none = refl }
+  ask_silent asker ask now mark false h = by_copy_silent asker ask now mark (copy_for s ask now) h
+
   icp_back : (from : Address) (m : Icp) (now : ℕ) (mark : X) (o : IcpOp) → is_query o ≡ true → GoesTo from (icp_comes g s from m now mark o)
   unfolding icp_comes icp_query
   icp_back from m now mark op.Query h = record { back = (refl, tt) }
@@ -78,7 +84,7 @@ module _ {X : Type 0} (g : Setting) (s : NodeState X) where
 
   open_step_back : (mark : X) (e : Event X) → is_from_sibling g e ≡ true → SendsBack e (sent (open_step g s mark e).outcome)
   unfolding open_step ask_comes
-  open_step_back mark (event.PeerAsk asker ask now) h = (by_copy_silent asker ask now mark (copy_for s ask now) h).none
+  open_step_back mark (event.PeerAsk asker ask now) h = (ask_silent asker ask now mark (is_outside g s) h).none
   open_step_back mark (event.Datagram from m now) h = (datagram_back from now mark m h).back
   open_step_back mark _ h = absurd (true_not_false (sym h))
 

@@ -36,9 +36,33 @@ slice_get-push_cases [] x (suc k) y h = cc
 slice_get-push_cases (a ∷ xs) x zero y h = inl h
 slice_get-push_cases (a ∷ xs) x (suc k) y h = slice_get-push_cases xs x k y h
 
+slice_get-push_last : {X : Type 0} (xs : List X) (x : X) (k : ℕ) (y : X) → slice_get (xs ++ x ∷ []) k ≡ Some y →
+    (slice_get xs k ≡ Some y) ⊎ ((k ≡ length xs) × (x ≡ y))
+slice_get-push_last [] x zero y h = inr (refl, same_Some x y h)
+slice_get-push_last [] x (suc k) y h = cc
+slice_get-push_last (a ∷ xs) x zero y h = inl h
+slice_get-push_last (a ∷ xs) x (suc k) y h = elim (slice_get-push_last xs x k y h) [ inl was ↦ inl was | inr last ↦ inr (ap suc last.0, last.1) ]
+
+-- the same, with the number of the last
+pub item_last : {X : Type 0} (xs : List X) (x : X) (k : ℕ) (y : X) → IsItem (xs ++ x ∷ []) k y → IsItem xs k y ⊎ ((k ≡ length xs + 1) × (x ≡ y))
+item_last {X} xs x k y h = elim (slice_get-push_last xs x (k - 1) y h.1) [ inl was ↦ inl (h.0, was) | inr last ↦ inr (omega (arith, h.0, last.0), last.1) ]
+
 -- an item of the longer list is one of the shorter, or the last
 pub item_cases : {X : Type 0} (xs : List X) (x : X) (k : ℕ) (y : X) → IsItem (xs ++ x ∷ []) k y → IsItem xs k y ⊎ (x ≡ y)
 item_cases {X} xs x k y h = elim (slice_get-push_cases xs x (k - 1) y h.1) [ inl e ↦ inl (h.0, e) | inr e ↦ inr e ]
+
+slice_get-front : {X : Type 0} (xs ys : List X) (k : ℕ) (x : X) → k < length xs → slice_get (xs ++ ys) k ≡ Some x → slice_get xs k ≡ Some x
+slice_get-front [] ys k x lt h = absurd (omega (arith, lt))
+slice_get-front (a ∷ xs) ys zero x lt h = h
+slice_get-front (a ∷ xs) ys (suc k) x lt h = slice_get-front xs ys k x (omega (arith, lt)) h
+
+-- an item of a longer list whose number is of the shorter one is an item of the shorter one
+pub item_front : {X : Type 0} (xs ys : List X) (k : ℕ) (x : X) → k ≤ length xs → IsItem (xs ++ ys) k x → IsItem xs k x
+item_front xs ys k x low h = (h.0, slice_get-front xs ys (k - 1) x (omega (arith, low, h.0)) h.1)
+
+-- an item's number is at most the length
+pub item_within : {X : Type 0} (xs : List X) (k : ℕ) (x : X) → IsItem xs k x → k ≤ length xs
+item_within xs k x h = let l : k - 1 < length xs = slice_get_within xs (k - 1) x h.1 in omega (arith, l)
 
 -- a prefix of a list is a prefix of a longer one
 pub take_of_more : {X : Type 0} (n : ℕ) (xs ys : List X) → (zs : List X) × (take n (xs ++ ys) ≡ take n xs ++ zs)

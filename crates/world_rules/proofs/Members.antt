@@ -33,7 +33,7 @@ among_possible : (id : ℕ) → 1 ≤ id → id ≤ 16 → is_among id possible_
 unfolding ids_from
 among_possible id low high = among_from 1 16 id low (omega (arith, high))
 
-kept_among : (test : ℕ → Bool) (ids : List ℕ) (id : ℕ) → test id ≡ true → is_among id ids ≡ true → is_among id (filter test ids) ≡ true
+pub kept_among : (test : ℕ → Bool) (ids : List ℕ) (id : ℕ) → test id ≡ true → is_among id ids ≡ true → is_among id (filter test ids) ≡ true
 kept_among test [] id passes has = absurd (true_not_false (sym has))
 kept_among test (i ∷ ids) id passes has = elim (or_cases (nat_eq i id) (is_among id ids) has) [
   | inl same ↦ branches (λ (xs : List ℕ). is_among id xs ≡ true) (test i) (i ∷ filter test ids) (filter test ids)
@@ -72,9 +72,23 @@ member_id t fit id (Some m) is some =
     id_fits m id (found (λ m. ranges.is_member m ≡ true) (λ m. nat_eq m.cache.id id) t.members m (all_tested ranges.is_member t.members (members_fit t fit)) is)
     (found_passes (λ m. nat_eq m.cache.id id) t.members m is)
 
+-- what is among those that pass a test passes it
+pub left_passes : (test : ℕ → Bool) (ids : List ℕ) (id : ℕ) → is_among id (filter test ids) ≡ true → test id ≡ true
+left_passes test [] id has = absurd (true_not_false (sym has))
+left_passes test (i ∷ ids) id has =
+    (branches (λ (xs : List ℕ). is_among id xs ≡ true → test id ≡ true) (test i) (i ∷ filter test ids) (filter test ids)
+    (λ passes h. elim (or_cases (nat_eq i id) (is_among id (filter test ids)) h) [
+      | inl same ↦ subst (λ n. test n ≡ true) (ids_same i id same) passes
+      | inr later ↦ left_passes test ids id later
+    ]) (λ _ h. left_passes test ids id h)) has
+
+-- a member's id is possible
+pub among_member : (t : Tables) → are_tables t ≡ true → (id : ℕ) → is_member t id ≡ true → is_among id possible_ids ≡ true
+among_member t fit id is =
+    let range = member_id t fit id (find (λ m. nat_eq m.cache.id id) t.members) refl is in
+    among_possible id range.0 range.1
+
 -- a member is among those that the master counts
 pub member_counts : (t : Tables) → are_tables t ≡ true → (id : ℕ) → is_member t id ≡ true → is_among id (members_of t) ≡ true
 unfolding members_of
-member_counts t fit id is =
-    let range = member_id t fit id (find (λ m. nat_eq m.cache.id id) t.members) refl is in
-    kept_among (is_member t) possible_ids id is (among_possible id range.0 range.1)
+member_counts t fit id is = kept_among (is_member t) possible_ids id is (among_member t fit id is)

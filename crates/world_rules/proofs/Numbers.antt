@@ -1,7 +1,7 @@
 -- A node reads the number of a CLR as the master wrote it: the digits spell the number and have no
--- leading zero and no blank, and the header has one line, the purge number's.
+-- leading zero and no blank, and the header has one line, of a purge's number or of an admission's.
 use Rattle.std.proofs.Common.{◌≡◌, ℕ, ◌+◌, ◌-◌, ◌/◌, ◌%◌, ◌^◌, ◌≤◌, ◌<◌, Bool, true, false, cond, not, ◌&&◌, ◌||◌, List, [], ◌∷◌, ◌++◌, length, take, drop}
-use Rattle.std.proofs.Common.{reverse, Some, None, Ok, refl, sym, ◌∙◌, ap, subst, nat_eq, nat_le, nat_lt, arith}
+use Rattle.std.proofs.Common.{reverse, Option, Some, None, Ok, refl, sym, ◌∙◌, ap, subst, nat_eq, nat_le, nat_lt, arith}
 use Rattle.std.specs.Prelude.{codes, decimal, slice_index, is_none}
 use Rattle.std.specs.List.{AllByRecursion, list_all, prefix_len, suffix_len, filter_map, cons_option}
 use native.Mathlib.Decide.{dec_lt}
@@ -9,7 +9,7 @@ use Rattle.std.specs.Char.{is_ascii_digit}
 use Rattle.std.specs.Str.Parse.{digits_value}
 use Rattle.std.proofs.lemmas.Fmt.{decimal_by_steps, digits_decimal, digits_value-decimal, length-decimal-le}
 use Rattle.std.proofs.lemmas.List.{reverse-append, take_all}
-use Rattle.htcp_wire.specs.declared.numbers.HeaderKind.TheVariants.{PurgeNumber}
+use Rattle.htcp_wire.specs.declared.numbers.HeaderKind.TheVariants.{PurgeNumber, PurgeBase}
 use Rattle.htcp_wire.specs.Numbers.{is_blank, trim_front, trim_end, value_in, is_number, number_of_values, number_in_text, line_name}
 use Rattle.htcp_wire.specs.Lines.{IsLine, AreLines}
 use Rattle.htcp_wire.proofs.Digits.{same_digit_tests, numerals}
@@ -17,13 +17,20 @@ use Rattle.htcp_wire.proofs.Cuts.{lines_alone}
 use Rattle.values_plain.specs.declared.address.Address.{Address}
 use Rattle.roster.specs.Lookups.{is_master}
 use Rattle.node_rules.specs.declared.message.Message.TheVariants as message
-use Rattle.node_rules.specs.Relation.{purge_in_message, purge_by_line}
+use Rattle.node_rules.specs.declared.raising.Raise.{Raise}
+use Rattle.node_rules.specs.declared.raising.Raise.TheVariants.{Floor, Base}
+use Rattle.node_rules.specs.Raises.{number_of}
+use Rattle.node_rules.specs.Datagrams.{is_masters, base_alone}
+use Rattle.node_rules.specs.Relation.{raise_in_message, raise_by_lines, purge_by_line}
 use Rattle.node_rules.proofs.Cases.{true_not_false, or_true}
 use Rattle.node_rules.proofs.Pendings.{all_mapped, all_joined}
-use Rattle.purge_rules.specs.Clear.{number_line, clear}
+use Rattle.purge_rules.specs.Clear.{number_line, base_line}
 use Rattle.values_tables.specs.declared.plain.Tables.{Tables}
 use Rattle.values_keys.specs.KeyOf.{key_of}
 use Rattle.node_rules.specs.State.{setting}
+use Rattle.world_rules.specs.Run.{Given, OfPurge, OfAdmission}
+use Rattle.world_rules.specs.Lineage.{clear_of, IsOfUrl}
+use Rattle.world_rules.proofs.Keys.{own_key}
 use Rattle.world_rules.proofs.Members.{all_tested}
 use Rattle.world_rules.proofs.MemberStates.{same_id, other_id, or_left}
 
@@ -119,12 +126,21 @@ plain_name : AllByRecursion IsPlain (codes "X-Purge-Number: ")
 unfolding IsPlain
 plain_name = all_tested (λ c. not (nat_eq c 13)) (codes "X-Purge-Number: ") refl
 
+plain_base : AllByRecursion IsPlain (codes "X-Purge-Base: ")
+unfolding IsPlain
+plain_base = all_tested (λ c. not (nat_eq c 13)) (codes "X-Purge-Base: ") refl
+
+two_lines : (name : List ℕ) → AllByRecursion IsPlain name → (n : ℕ) → IsWritten n (decimal n) → AllByRecursion IsLine ((name ++ decimal n) ∷ [] ∷ [])
+two_lines name plain n is = (
+  plain_line (name ++ decimal n) (all_joined IsPlain name (decimal n) plain (all_mapped IsDigit IsPlain digit_plain (decimal n) is.digits)),
+  (plain_line [] tt, tt),
+)
+
 the_lines : (n : ℕ) → IsWritten n (decimal n) → AreLines (number_line n) ((codes "X-Purge-Number: " ++ decimal n) ∷ [] ∷ [])
-the_lines n is = record {
-  some = λ e. cc;
-  each = (plain_line (codes "X-Purge-Number: " ++ decimal n) (all_joined IsPlain (codes "X-Purge-Number: ") (decimal n) plain_name (all_mapped IsDigit IsPlain digit_plain (decimal n) is.digits)), (plain_line [] tt, tt));
-  parts = refl;
-}
+the_lines n is = record { some = λ e. cc; each = two_lines (codes "X-Purge-Number: ") plain_name n is; parts = refl }
+
+base_lines : (n : ℕ) → IsWritten n (decimal n) → AreLines (base_line n) ((codes "X-Purge-Base: " ++ decimal n) ∷ [] ∷ [])
+base_lines n is = record { some = λ e. cc; each = two_lines (codes "X-Purge-Base: ") plain_base n is; parts = refl }
 
 the_value : (ds : List ℕ) → value_in (line_name PurgeNumber) (codes "X-Purge-Number: " ++ ds) ≡ Some (trim_end (trim_front (32 ∷ ds)))
 unfolding value_in
@@ -132,13 +148,40 @@ the_value ds =
     let within : nat_lt 14 (length (codes "X-Purge-Number: " ++ ds)) ≡ true = grind arith in
     ap (λ b. cond (is_none {T = ℕ} (cond b (Some 14) None)) None (Some (trim_end (trim_front (32 ∷ ds))))) within
 
+base_value : (ds : List ℕ) → value_in (line_name PurgeBase) (codes "X-Purge-Base: " ++ ds) ≡ Some (trim_end (trim_front (32 ∷ ds)))
+unfolding value_in
+base_value ds =
+    let within : nat_lt 12 (length (codes "X-Purge-Base: " ++ ds)) ≡ true = grind arith in
+    ap (λ b. cond (is_none {T = ℕ} (cond b (Some 12) None)) None (Some (trim_end (trim_front (32 ∷ ds))))) within
+
+abbrev no_text : Option (List ℕ)
+no_text = None
+
+-- a line of the other kind has no value
+other_base : (ds : List ℕ) → value_in (line_name PurgeBase) (codes "X-Purge-Number: " ++ ds) ≡ None
+unfolding value_in
+other_base ds =
+    let within : nat_lt 14 (length (codes "X-Purge-Number: " ++ ds)) ≡ true = grind arith in
+    ap (λ b. cond (is_none {T = ℕ} (cond b (Some 14) None)) no_text no_text) within
+
+other_number : (ds : List ℕ) → value_in (line_name PurgeNumber) (codes "X-Purge-Base: " ++ ds) ≡ None
+unfolding value_in
+other_number ds =
+    let within : nat_lt 12 (length (codes "X-Purge-Base: " ++ ds)) ≡ true = grind arith in
+    ap (λ b. cond (is_none {T = ℕ} (cond b (Some 12) None)) no_text no_text) within
+
 no_value : value_in (line_name PurgeNumber) [] ≡ None
 unfolding value_in
 no_value = refl
 
-the_values : (n : ℕ) → filter_map (value_in (line_name PurgeNumber)) ((codes "X-Purge-Number: " ++ decimal n) ∷ [] ∷ []) ≡ trim_end (trim_front (32 ∷ decimal n)) ∷ []
-the_values n = ap (λ o. cons_option o (filter_map (value_in (line_name PurgeNumber)) ([] ∷ []))) (the_value (decimal n))
-    ∙ ap (λ o. trim_end (trim_front (32 ∷ decimal n)) ∷ cons_option o []) no_value
+no_base : value_in (line_name PurgeBase) [] ≡ None
+unfolding value_in
+no_base = refl
+
+-- the values of a line and of the empty line behind it
+values_of : (name line : List ℕ) (o : Option (List ℕ)) → value_in name line ≡ o → value_in name [] ≡ None → filter_map (value_in name) (line ∷ [] ∷ [])
+    ≡ cons_option o []
+values_of name line o is none = ap (λ p. cons_option p (filter_map (value_in name) ([] ∷ []))) is ∙ ap (λ p. cons_option o (cons_option p [])) none
 
 -- The number
 
@@ -168,14 +211,42 @@ value_read n small is =
     ap (λ b. cond b (Ok (Some (digits_value 10 (decimal n)))) (number_of_values (decimal n ∷ decimal n ∷ []))) (good_number n small is)
     ∙ ap (λ k. Ok (Some k)) (digits_value-decimal numerals n (omega arith))
 
-pub number_read : (n : ℕ) → n ≤ 4294967295 → number_in_text (number_line n) PurgeNumber ≡ Ok (Some n)
-number_read n small =
-    let big : n < 2 ^ 64 = omega arith in
-    let is : IsWritten n (decimal n) = written n big in
-    ap (λ lines. number_of_values (filter_map (value_in (line_name PurgeNumber)) lines)) (sym (lines_alone (number_line n) ((codes "X-Purge-Number: " ++ decimal n) ∷ [] ∷ []) (the_lines n is)))
-    ∙ ap number_of_values (the_values n)
-    ∙ ap (λ value. number_of_values (value ∷ [])) (trimmed (decimal n) n is)
-    ∙ value_read n small is
+module _ (n : ℕ) (small : n ≤ 4294967295) where
+  all_written : IsWritten n (decimal n)
+  all_written = let big : n < 2 ^ 64 = omega arith in written n big
+
+  the_number : number_of_values (trim_end (trim_front (32 ∷ decimal n)) ∷ []) ≡ Ok (Some n)
+  the_number = ap (λ value. number_of_values (value ∷ [])) (trimmed (decimal n) n all_written) ∙ value_read n small all_written
+
+  pub number_read : number_in_text (number_line n) PurgeNumber ≡ Ok (Some n)
+  number_read =
+      ap (λ lines. number_of_values (filter_map (value_in (line_name PurgeNumber)) lines))
+      (sym (lines_alone (number_line n) ((codes "X-Purge-Number: " ++ decimal n) ∷ [] ∷ []) (the_lines n all_written)))
+      ∙ ap number_of_values (values_of (line_name PurgeNumber) (codes "X-Purge-Number: " ++ decimal n) (Some (trim_end (trim_front (32 ∷ decimal n))))
+      (the_value (decimal n)) no_value)
+      ∙ the_number
+
+  -- the CLR of a purge has no line of an admission
+  pub number_alone : number_in_text (number_line n) PurgeBase ≡ Ok None
+  number_alone =
+      ap (λ lines. number_of_values (filter_map (value_in (line_name PurgeBase)) lines))
+      (sym (lines_alone (number_line n) ((codes "X-Purge-Number: " ++ decimal n) ∷ [] ∷ []) (the_lines n all_written)))
+      ∙ ap number_of_values (values_of (line_name PurgeBase) (codes "X-Purge-Number: " ++ decimal n) None (other_base (decimal n)) no_base)
+
+  pub base_read : number_in_text (base_line n) PurgeBase ≡ Ok (Some n)
+  base_read =
+      ap (λ lines. number_of_values (filter_map (value_in (line_name PurgeBase)) lines))
+      (sym (lines_alone (base_line n) ((codes "X-Purge-Base: " ++ decimal n) ∷ [] ∷ []) (base_lines n all_written)))
+      ∙ ap number_of_values (values_of (line_name PurgeBase) (codes "X-Purge-Base: " ++ decimal n) (Some (trim_end (trim_front (32 ∷ decimal n))))
+      (base_value (decimal n)) no_base)
+      ∙ the_number
+
+  -- the CLR of an admission has no line of a purge
+  pub base_alone_read : number_in_text (base_line n) PurgeNumber ≡ Ok None
+  base_alone_read =
+      ap (λ lines. number_of_values (filter_map (value_in (line_name PurgeNumber)) lines))
+      (sym (lines_alone (base_line n) ((codes "X-Purge-Base: " ++ decimal n) ∷ [] ∷ []) (base_lines n all_written)))
+      ∙ ap number_of_values (values_of (line_name PurgeNumber) (codes "X-Purge-Base: " ++ decimal n) None (other_number (decimal n)) no_value)
 
 all_three : (a b c : Bool) → a ≡ true → b ≡ true → c ≡ true → (a && b && c) ≡ true
 all_three a b c h i j = cc
@@ -183,11 +254,28 @@ all_three a b c h i j = cc
 at_least_one : (n : ℕ) → 1 ≤ n → nat_le 1 n ≡ true
 at_least_one n positive = grind (arith, positive)
 
--- the master's CLR brings its purge
-pub clear_is_purge : (h : Tables) (id number : ℕ) (key : List ℕ) (from : Address) → is_master h from ≡ true → 1 ≤ number → number ≤ 4294967295 →
-    key_of key ≡ Some key → purge_in_message (setting h id) from (message.Htcp (clear number key)) ≡ Some (key, number)
-clear_is_purge h id number key from master positive small is_key =
-    ap (λ o. purge_by_line (setting h id) from number o (number_in_text (number_line number) PurgeNumber)) is_key
-    ∙ ap (λ line. purge_by_line (setting h id) from number (Some key) line) (number_read number small)
-    ∙ ap (λ b. cond b (Some (key, number)) None) (all_three (is_master h from) (nat_eq number number) (nat_le 1 number) master (same_id number)
-    (at_least_one number positive))
+-- what the CLR of a number raises
+abbrev pub raise_of : ℕ → Given → Raise
+raise_of number (OfPurge key) = Floor key number
+raise_of number (OfAdmission id) = Base number
+
+pub number_of_raised : (number : ℕ) (given : Given) → number_of (raise_of number given) ≡ number
+number_of_raised number (OfPurge key) = refl
+number_of_raised number (OfAdmission id) = refl
+
+module _ (h : Tables) (id number : ℕ) (from : Address) (master : is_master h from ≡ true) (positive : 1 ≤ number) (small : number ≤ 4294967295) where
+  masters_number : is_masters (setting h id) from number number ≡ true
+  masters_number = all_three (is_master h from) (nat_eq number number) (nat_le 1 number) master (same_id number) (at_least_one number positive)
+
+  -- the master's CLR brings the raise of its number
+  pub clear_is_raise : (given : Given) → IsOfUrl given → raise_in_message (setting h id) from (message.Htcp (clear_of number given)) ≡ Some
+      (raise_of number given)
+  clear_is_raise (OfPurge key) is_key =
+      ap (λ line. raise_by_lines (setting h id) from number (key_of key) (number_in_text (number_line number) PurgeNumber) line) (number_alone number small)
+      ∙ ap (λ o. purge_by_line (setting h id) from number o (number_in_text (number_line number) PurgeNumber)) (own_key h key is_key)
+      ∙ ap (λ line. purge_by_line (setting h id) from number (Some key) line) (number_read number small)
+      ∙ ap (λ b. cond b (Some (Floor key number)) None) masters_number
+  clear_is_raise (OfAdmission who) is_key =
+      ap (λ line. raise_by_lines (setting h id) from number (key_of []) (number_in_text (base_line number) PurgeNumber) line) (base_read number small)
+      ∙ ap (λ line. base_alone (setting h id) from number number line) (base_alone_read number small)
+      ∙ ap (λ b. cond b (Some (Base number)) None) masters_number

@@ -17,25 +17,35 @@ use Rattle.world_rules.proofs.Items.{append_nil}
 use Rattle.world_rules.proofs.Consequences.{happens_keeps}
 
 -- the nodes of a new world are new
-node_is_new : NodeHasLineage [] new_node
-node_is_new = record { seen_issued = omega (arith, greatest_empty); copies = λ is_open. tt; reads = tt }
+node_is_new : (h : Tables) (id : ℕ) → NodeHasLineage h [] id new_node
+node_is_new h id = record {
+  seen_issued = omega (arith, greatest_empty);
+  copies = λ is_open. tt;
+  reads = tt;
+  above = λ is_open. tt;
+  joins = λ joins. inl (record { base = refl; copies = λ is_open. refl; pending = refl });
+}
 
-nodes_are_new : (members : List Member) (id : ℕ) → NodeHasLineage [] (node_at (map (λ (m : Member). record { id = m.cache.id; node = new_node }) members) id)
-nodes_are_new [] id = node_is_new
-nodes_are_new (m ∷ members) id =
-    branches (NodeHasLineage []) (nat_eq m.cache.id id) new_node (node_at (map (λ (m : Member). record { id = m.cache.id; node = new_node }) members) id)
-    (λ _. node_is_new) (λ _. nodes_are_new members id)
+nodes_are_new : (h : Tables) (members : List Member) (id : ℕ) →
+    NodeHasLineage h [] id (node_at (map (λ (m : Member). record { id = m.cache.id; node = new_node }) members) id)
+nodes_are_new h [] id = node_is_new h id
+nodes_are_new h (m ∷ members) id =
+    branches (NodeHasLineage h [] id) (nat_eq m.cache.id id) new_node
+    (node_at (map (λ (m : Member). record { id = m.cache.id; node = new_node }) members) id)
+    (λ _. node_is_new h id) (λ _. nodes_are_new h members id)
 
 -- the invariant holds of a new world
 new_lineage : (h : Tables) → HasLineage h [] (new_world h)
 new_lineage h = record {
   last = refl;
   small = omega arith;
-  nodes = nodes_are_new h.members;
+  nodes = nodes_are_new h h.members;
   masters = tt;
   obeyed = tt;
   answers = tt;
   pending = tt;
+  admissions = tt;
+  listed = λ number id item. cc (item.1);
   done = λ number low high none. absurd (omega (arith, low, high));
   reported = λ place number told. cc (told.1.1);
 }

@@ -22,7 +22,8 @@ use Rattle.node_rules.specs.State.{opened, closed_node}
 use Rattle.node_rules.proofs.Cases.{branches, true_not_false}
 use Rattle.purge_rules.specs.declared.fault.MasterFault.{MasterFault}
 use Rattle.purge_rules.specs.Purges.{PurgeList}
-use Rattle.purge_rules.specs.Calls.{issue_fault}
+use Rattle.purge_rules.specs.Needed.{nodes_of}
+use Rattle.purge_rules.specs.Calls.{issue_fault, admit_fault}
 use Rattle.values_tables.specs.declared.plain.Tables.{Tables}
 use Rattle.world_rules.specs.declared.event.WorldEvent.{WorldEvent}
 use Rattle.world_rules.specs.declared.event.WorldEvent.TheVariants as world
@@ -31,7 +32,8 @@ use Rattle.node_rules.specs.Messages.{protocol_of as udp_of}
 use Rattle.node_rules.specs.Spelled.{decoded_by}
 use Rattle.world_rules.specs.World.{Datagram, PeerAsk, PeerAnswer, Waiting, World, item, node_at}
 use Rattle.world_rules.specs.Consequence.{Seen, Nothing, Consequence, NodeSteps, Ends, Refused, at_member, with_clock, with_master, with_sent}
-use Rattle.world_rules.specs.Consequence.{with_member_state, issue_by, acknowledged_by, master_hears_htcp, master_hears, delivered_to, delivered, octets_reach}
+use Rattle.world_rules.specs.Consequence.{with_member_state, issue_by, admit_by, acknowledged_by, master_hears_htcp, master_hears, delivered_to, delivered}
+use Rattle.world_rules.specs.Consequence.{octets_reach}
 use Rattle.world_rules.specs.Consequence.{octets_come, ask_delivered, answer_delivered, origin_by, origin_to, foreign_by, foreign_to, fetching_at, consequence}
 use Rattle.world_rules.specs.Run.{Step, ServesCopy}
 use Rattle.world_rules.specs.Asked.{moment}
@@ -141,6 +143,10 @@ module _ (h : Tables) (past : List Step) (w : World) (sources : HasSources h pas
   issue_known key (Some fault) = same_known _ w sources (λ c s. absurd s)
   issue_known key None = same_known _ _ (sent_known _ _) (λ c s. absurd s)
 
+  admit_known : (id : ℕ) (o : Option MasterFault) → Knows h past w (admit_by h w id o)
+  admit_known id (Some fault) = same_known _ w sources (λ c s. absurd s)
+  admit_known id None = same_known _ _ (sent_known _ _) (λ c s. absurd s)
+
   -- a node that has lost what waited, and its copies unless it is closed
   state_known : (id : ℕ) (s : NodeState ℕ) → NodeHasSources h past id s → s.pending ≡ [] → EndsKnown h past Nothing (with_member_state w id s)
   state_known id s node empty = same_known Nothing (with_member_state w id s)
@@ -153,6 +159,7 @@ module _ (h : Tables) (past : List Step) (w : World) (sources : HasSources h pas
             (sources.asks other is_open));
       }) (λ c s. absurd s)
 
+  -- an event steps a node by what has a source or brings no copy, or it adds nothing that needs a source
   pub consequence_known : (cause : WorldEvent) → Knows h past w (consequence h w cause)
   consequence_known (world.Clock now) = same_known Nothing (with_clock w now) (clock_known now) (λ c s. absurd s)
   consequence_known (world.Client id ask) = at_member_known id _ (plainly_known (event.Client ask w.clock) refl tt)
@@ -168,8 +175,10 @@ module _ (h : Tables) (past : List Step) (w : World) (sources : HasSources h pas
   consequence_known (world.Expire id serial) = at_member_known id _ (plainly_known (event.Expired serial w.clock) refl tt)
   consequence_known (world.Fault id) = at_member_known id _ (state_known id (closed_node (node_at w.states id)) record
       { copies = λ is_open. absurd (true_not_false is_open); reads = tt } refl)
-  consequence_known (world.Restart id) = at_member_known id _ (state_known id (opened (node_at w.states id).floors) record { copies = λ is_open. tt; reads = tt } refl)
+  consequence_known (world.Restart id) = at_member_known id _
+      (state_known id (opened (node_at w.states id).floors) record { copies = λ is_open. tt; reads = tt } refl)
   consequence_known (world.Issue key) = issue_known key (issue_fault w.master)
+  consequence_known (world.Admit id) = admit_known id (admit_fault (nodes_of h) w.master id)
   consequence_known world.Resend = same_known Nothing _ (sent_known w.master _) (λ c s. absurd s)
   consequence_known (world.Status number) = same_known _ w sources (λ c s. absurd s)
   consequence_known world.RestartMaster = same_known Nothing w sources (λ c s. absurd s)

@@ -64,7 +64,8 @@ module _ (h : Tables) (past : List Step) (old : World) (after : IsAfter h past o
   }
 
   -- a copy that is served has a source
-  takes_copy : (c : WebCopy ℕ) → ServesCopy seen c → (t : Consequence) → consequence h old cause ≡ t → Knows h past old t → Takes h (length past + 1) old t seen new →
+  takes_copy : (c : WebCopy ℕ) → ServesCopy seen c → (t : Consequence) → consequence h old cause ≡ t → Knows h past old t
+      → Takes h (length past + 1) old t seen new →
       IsSourcedCopy h (past ++ record { event = cause; seen = seen } ∷ []) c
   takes_copy c serves (NodeSteps id e serial) meets known (outcome, next, steps, is_seen, is_new) =
       let law = steps_are_lawful (setting h id) (node_at old.states id) e (length past + 1) outcome next steps in

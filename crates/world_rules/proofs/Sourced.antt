@@ -64,6 +64,7 @@ module _ (h : Tables) (past more : List Step) where
   begins_later : (place id serial : ℕ) (key : List ℕ) → BeginsReadAt h past place id serial key → BeginsReadAt h (past ++ more) place id serial key
   begins_later place id serial key b = record { e = b.e; outcome = b.outcome; step = node_step_later b.step; ask = b.ask; begins = b.begins; asks = b.asks }
 
+  -- the steps that a source names stand in the longer run too, at the same places
   pub source_later : (key : List ℕ) (mark : ℕ) (held : AnswerText) → HasSource h past key mark held → HasSource h (past ++ more) key mark held
   unfolding node_step_later
   source_later key mark held is = elim is [
@@ -179,7 +180,9 @@ module _ (h : Tables) (past : List Step) (old : World) (runs : Run h 1 (new_worl
       subst (λ k. HasSource h Now k c.tag c.answer) (sym (is.key_same ∙ is.waits.key_same))
       (subst (λ n. HasSource h Now key n c.answer) (sym is.tag_same) (subst (HasSource h Now key tag) (sym is.answer_same) has))
 
-  answer_source : (e : Event ℕ) → consequence h old cause ≡ NodeSteps id e serial → KnowsSource h past e → (c : WebCopy ℕ) → IsAnswerOf (node_at old.states id) e c →
+  -- a response of an origin or a foreign cache is its own source, by this step; a member's came with one
+  answer_source : (e : Event ℕ) → consequence h old cause ≡ NodeSteps id e serial → KnowsSource h past e → (c : WebCopy ℕ)
+      → IsAnswerOf (node_at old.states id) e c →
       IsSourcedCopy h Now c
   unfolding this_step
   answer_source (event.OriginAnswer read_serial key answer now) meets knows c (p, has, is) =
@@ -223,7 +226,8 @@ module _ (h : Tables) (past : List Step) (old : World) (runs : Run h 1 (new_worl
       })
   answer_source _ meets knows c is = absurd is.2
 
-  pub copy_source : (e : Event ℕ) → consequence h old cause ≡ NodeSteps id e serial → KnowsSource h past e → (c : WebCopy ℕ) → HasOrGets (node_at old.states id) e c →
+  pub copy_source : (e : Event ℕ) → consequence h old cause ≡ NodeSteps id e serial → KnowsSource h past e → (c : WebCopy ℕ)
+      → HasOrGets (node_at old.states id) e c →
       IsSourcedCopy h Now c
   copy_source e meets knows c has = elim has.1 [
     | inl held ↦ source_later h past (record { event = cause; seen = Replied id outcome } ∷ []) c.key c.tag c.answer
@@ -266,6 +270,7 @@ module _ (h : Tables) (past : List Step) (old : World) (runs : Run h 1 (new_worl
       let found : asked_before old.waiting id block ≡ Some kept.0 = ap (λ n. asked_before old.waiting id n) (sym block_same) ∙ kept.1 in
       ap (λ (a : Answered). a.key) (same_Some a kept.0 (sym e ∙ found)) ∙ kept.2 ∙ same
 
+  -- the answer is for the key of the copy that is served, which has a source; a bare status needs none
   answer_sourced : (e : Event ℕ) (waiter : Option ℕ) (asker : ℕ) (served : Served ℕ) (a : Answered) → asked_by old.waiting id e serial waiter ≡ Some a →
       IsBareStatus served →
       ((c : WebCopy ℕ) → copy_in served ≡ Some c → ((node_at old.states id).closed ≡ false) × IsSourcedCopy h Now c) →

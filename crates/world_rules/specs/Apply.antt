@@ -15,7 +15,7 @@ use Rattle.world_rules.specs.declared.outcome.ActorFault.{ActorFault}
 use Rattle.world_rules.specs.declared.outcome.ActorFault.TheVariants as actor
 use Rattle.world_rules.specs.declared.outcome.WorldFault.{WorldFault}
 use Rattle.world_rules.specs.World.{World, node_at, reply_in, after_node}
-use Rattle.world_rules.specs.Consequence.{Seen, Replied, Issued, NotIssued, Reported, Consequence, NodeSteps, Ends, Refused, consequence}
+use Rattle.world_rules.specs.Consequence.{Seen, Replied, Issued, NotIssued, Admitted, NotAdmitted, Reported, Consequence, NodeSteps, Ends, Refused, consequence}
 use Rattle.world_rules.specs.Run.{Happens}
 
 -- this many numbers after the first
@@ -37,7 +37,12 @@ abbrev pub purge_of : Seen → Option ℕ
 purge_of (Issued number) = Some number
 purge_of _ = None
 
--- the number and the status of the purge that the master reported, if it did
+-- the number of the admission, if there was one
+abbrev pub admitted_of : Seen → Option ℕ
+admitted_of (Admitted number) = Some number
+admitted_of _ = None
+
+-- the number and the status that the master reported, if it did
 abbrev pub status_of : Seen → Option (ℕ × Status)
 status_of (Reported number status) = Some (number, status)
 status_of _ = None
@@ -61,6 +66,7 @@ fault_in (Err fault) = Some (actor.Step fault)
 abbrev pub fault_of : Seen → Option ActorFault
 fault_of (Replied id outcome) = fault_in outcome
 fault_of (NotIssued fault) = Some (actor.Master fault)
+fault_of (NotAdmitted fault) = Some (actor.Master fault)
 fault_of _ = None
 
 -- the outcome of what was seen, if these were sent: a response, datagrams and a request, by numbers
@@ -69,6 +75,7 @@ outcome_with seen answer sent ask = record {
   serve = (reply_of seen).serve;
   answer = answer;
   purge = purge_of seen;
+  admitted = admitted_of seen;
   status = status_of seen;
   round = round_in (reply_of seen).begin;
   sent = sent;

@@ -25,10 +25,12 @@ use Rattle.node_rules.specs.declared.reply.StepFault.{StepFault}
 use Rattle.node_rules.specs.State.{opened, closed_node, fetch_serial}
 use Rattle.purge_rules.specs.declared.calls.Status.{Status}
 use Rattle.purge_rules.specs.declared.fault.MasterFault.{MasterFault}
-use Rattle.purge_rules.specs.Members.{members_of}
-use Rattle.purge_rules.specs.Purges.{PurgeList, with_purge}
-use Rattle.purge_rules.specs.Calls.{issue_fault, acknowledged, due, status_of}
-use Rattle.purge_rules.specs.Clear.{clear, message_of}
+use Rattle.purge_rules.specs.declared.purges.Admission.{Admission}
+use Rattle.purge_rules.specs.Members.{is_among}
+use Rattle.purge_rules.specs.Needed.{nodes_of, needed}
+use Rattle.purge_rules.specs.Purges.{PurgeList, with_purge, with_admission}
+use Rattle.purge_rules.specs.Calls.{issue_fault, admit_fault, acknowledged, due, status_of}
+use Rattle.purge_rules.specs.Clear.{clear, base_clear, message_of}
 use Rattle.world_rules.specs.declared.event.WorldEvent.{WorldEvent}
 use Rattle.world_rules.specs.declared.event.WorldEvent.TheVariants as world
 use Rattle.world_rules.specs.declared.outcome.WorldFault.{WorldFault}
@@ -44,7 +46,10 @@ pub data Seen : Type 0 where
   -- the master issued a purge under this number, or refused to
   Issued : (number : ℕ) → Seen
   NotIssued : (fault : MasterFault) → Seen
-  -- the master reported the status of a purge
+  -- the master admitted a member under this number, or refused to
+  Admitted : (number : ℕ) → Seen
+  NotAdmitted : (fault : MasterFault) → Seen
+  -- the master reported the status of a number
   Reported : (number : ℕ) (status : Status) → Seen
   Nothing : Seen
 
@@ -91,33 +96,48 @@ clear_to roster (Some m) (Some member) =
     record { sender = roster.master; receiver = member.cache.htcp; message = message.Htcp m } ∷ []
 clear_to roster _ _ = []
 
--- the CLRs of a new purge: one to each member, in order of ids
-abbrev pub clears_of : Tables → ℕ → List ℕ → List Datagram
-clears_of roster number key = flat_map (λ id. clear_to roster (Some (clear number key)) (member_of roster id))
-    (members_of roster)
+-- the CLR of a new purge to the member with this id, if the id is one of these
+abbrev pub clear_if : Tables → List ℕ → ℕ → List ℕ → ℕ → List Datagram
+clear_if roster ids number key id =
+    if is_among id ids then clear_to roster (Some (clear number key)) (member_of roster id) else []
 
--- the CLR of each pending purge to each member that has not acknowledged it
+-- the CLRs of a new purge, after these admissions: one to each member that it needs, in order of ids
+abbrev pub clears_of : Tables → List Admission → ℕ → List ℕ → List Datagram
+clears_of roster admissions number key =
+    flat_map (λ id. clear_to roster (Some (clear number key)) (member_of roster id))
+    (needed (nodes_of roster) admissions number)
+
+-- the CLR of each pending number to each member that it needs and that has not acknowledged it
 abbrev pub clears_due : Tables → PurgeList → List Datagram
 clears_due roster purges = flat_map (λ d. clear_to roster (message_of purges d.0) (member_of roster d.1))
-    (due (members_of roster) purges)
+    (due (nodes_of roster) purges)
 
 -- the master issues a purge under the next number and sends its CLRs, or refuses
 abbrev pub issue_by : Tables → World → List ℕ → Option MasterFault → Consequence
 issue_by roster w key (Some fault) = Ends (NotIssued fault) w
 issue_by roster w key None =
     let number = w.master.last + 1 in
-    Ends (Issued number) (with_sent (with_master w (with_purge w.master number key)) (clears_of roster number key))
+    Ends (Issued number) (with_sent (with_master w (with_purge w.master number key))
+    (clears_of roster w.master.admissions number key))
 
--- the master reports the status of the purge with this number
+-- the master admits a member under the next number and sends its CLR to that member, or refuses
+abbrev pub admit_by : Tables → World → ℕ → Option MasterFault → Consequence
+admit_by roster w id (Some fault) = Ends (NotAdmitted fault) w
+admit_by roster w id None =
+    let number = w.master.last + 1 in
+    Ends (Admitted number) (with_sent (with_master w (with_admission w.master number id))
+    (clear_to roster (Some (base_clear number)) (member_of roster id)))
+
+-- the master reports the status of this number
 abbrev pub reports : Tables → World → ℕ → Consequence
-reports roster w number = Ends (Reported number (status_of (members_of roster) w.master number)) w
+reports roster w number = Ends (Reported number (status_of (nodes_of roster) w.master number)) w
 
--- A member's response to a CLR counts for the purge whose number is its TRANS-ID. It is counted,
--- and the status is reported.
+-- A member's response to a CLR counts for the number that is its TRANS-ID. It is counted, and the
+-- status is reported.
 abbrev pub acknowledged_by : Tables → World → ℕ → ℕ → Option ℕ → Consequence
 acknowledged_by roster w number code None = Ends Nothing w
 acknowledged_by roster w number code (Some id) =
-    reports roster (with_master w (acknowledged (members_of roster) w.master id number code).purges) number
+    reports roster (with_master w (acknowledged (nodes_of roster) w.master id number code).purges) number
 
 -- the sender of a response to a CLR is known by its HTCP address [Master 5]
 abbrev pub master_hears_htcp : Tables → World → Address → ℕ → Content → Consequence
@@ -230,6 +250,7 @@ consequence roster w (world.Fault id) =
 consequence roster w (world.Restart id) =
     at_member roster id (Ends Nothing (with_member_state w id (opened (node_at w.states id).floors)))
 consequence roster w (world.Issue key) = issue_by roster w key (issue_fault w.master)
+consequence roster w (world.Admit id) = admit_by roster w id (admit_fault (nodes_of roster) w.master id)
 consequence roster w world.Resend = Ends Nothing (with_sent w (clears_due roster w.master))
 consequence roster w (world.Status number) = reports roster w number
 consequence roster w world.RestartMaster = Ends Nothing w

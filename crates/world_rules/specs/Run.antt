@@ -1,5 +1,5 @@
--- Runs: lists of events with what each visibly did; and when, in a run, a purge is issued, reported
--- done, or a copy served.
+-- Runs: lists of events with what each visibly did; which numbers the master gives in a run; and when
+-- a purge is issued, reported done, or a copy served.
 use Rattle.std.specs.Prelude.{◌≡◌, ℕ, ◌+◌, ◌-◌, ◌≤◌, List, [], ◌∷◌, length, take, filter_map, slice_get, ◌⊎◌, Option, Some, None, Result}
 use Rattle.url_key.specs.Key.{IsKey}
 use Rattle.object_store.specs.declared.copy.WebCopy.{WebCopy}
@@ -11,11 +11,11 @@ use Rattle.node_rules.specs.Effect.{copy_served}
 use Rattle.purge_rules.specs.declared.calls.Status.TheVariants.{Done}
 use Rattle.values_tables.specs.declared.plain.Tables.{Tables}
 use Rattle.world_rules.specs.declared.event.WorldEvent.{WorldEvent}
-use Rattle.world_rules.specs.declared.event.WorldEvent.TheVariants.{Issue}
+use Rattle.world_rules.specs.declared.event.WorldEvent.TheVariants.{Issue, Admit}
 use Rattle.world_rules.specs.declared.outcome.WorldFault.{WorldFault}
 use Rattle.node_rules.specs.State.{setting}
 use Rattle.world_rules.specs.World.{World, node_at, after_node}
-use Rattle.world_rules.specs.Consequence.{Seen, Replied, Issued, Reported, Consequence, NodeSteps, Ends, Refused, consequence}
+use Rattle.world_rules.specs.Consequence.{Seen, Replied, Issued, Admitted, Reported, Consequence, NodeSteps, Ends, Refused, consequence}
 
 -- This consequence, at this place of the run, may be seen so and leave this world. Only a node's step
 -- leaves a choice: memory or its floor store may fail. The place is the step's mark.
@@ -60,18 +60,24 @@ Plays roster place old (event ∷ events) steps new =
 abbrev pub IsItem : {A : Type 0} → List A → ℕ → A → Type 0
 IsItem items number x = (1 ≤ number) × (slice_get items (number - 1) ≡ Some x)
 
--- the key of the purge that an event issued, if it did
-abbrev pub purged_by : WorldEvent → Seen → Option (List ℕ)
-purged_by (Issue key) (Issued number) = Some key
-purged_by _ _ = None
+-- what a number of the master is of: the purge of a key, or the admission of a member
+pub data Given : Type 0 where
+  OfPurge : (key : List ℕ) → Given
+  OfAdmission : (id : ℕ) → Given
 
--- the keys of the purges that the steps issued, in order: purge n has the key with number n
-abbrev pub purges : List Step → List (List ℕ)
-purges steps = filter_map (λ step. purged_by step.event step.seen) steps
+-- what the number is of that the master gave at an event, if it gave one
+abbrev pub given_by : WorldEvent → Seen → Option Given
+given_by (Issue key) (Issued number) = Some (OfPurge key)
+given_by (Admit id) (Admitted number) = Some (OfAdmission id)
+given_by _ _ = None
 
--- how many purges were issued at places before this one
+-- what the numbers are of that the master gave in these steps, in order: number n is of item n
+abbrev pub numbers : List Step → List Given
+numbers steps = filter_map (λ step. given_by step.event step.seen) steps
+
+-- how many numbers were given at places before this one
 abbrev pub issued : List Step → ℕ → ℕ
-issued steps place = length (purges (take (place - 1) steps))
+issued steps place = length (numbers (take (place - 1) steps))
 
 -- the event at this place issued the purge of this number, of this key
 abbrev pub IsIssuedAt : List Step → ℕ → ℕ → List ℕ → Type 0

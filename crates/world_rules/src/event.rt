@@ -89,17 +89,22 @@ pub enum WorldEvent {
         /// The member's id.
         node: u8,
     },
-    /// The master issues a purge and sends its CLR to each member, or refuses.
+    /// The master issues a purge and sends its CLR to each member that the purge needs, or refuses.
     Issue {
         /// The URL's key.
         key: Key,
     },
-    /// The master sends the CLR of each pending purge again to each member that has not
-    /// acknowledged it.
+    /// The master admits a joining member and sends it the CLR of its admission, or refuses.
+    Admit {
+        /// The member's id.
+        node: u8,
+    },
+    /// The master sends the CLR of each pending number again to each member that the number needs
+    /// and that has not acknowledged it.
     Resend,
-    /// Somebody asks the master for the status of a purge.
+    /// Somebody asks the master for the status of a number.
     Status {
-        /// The purge's number.
+        /// The number of a purge or of an admission.
         number: u32,
     },
     /// The master restarts, with the purges that its store kept.

@@ -30,8 +30,14 @@
 //! - An origin's response reaches the read that asked for it, and no connection outlives its node's
 //!   restart. `Origin` and `Foreign` reach only a read or fetch that is pending now, and a restart
 //!   or a fault leaves none pending.
-//! - The roster stays the same. A run has one roster, and its members are those that a purge must
-//!   reach, also after restarts.
+//! - The roster stays the same, also after restarts. Members that join stand in it from the first
+//!   place on.
+//!
+//! A member that joins is outside until the master admits it: its base is 0, and it serves and
+//! begins nothing. A purge needs the founding members and those that were admitted under lesser
+//! numbers; an admission needs the member that it admits. Until then that member keeps the promise
+//! since it serves nothing; from then on its base is at least the number of its admission, and
+//! covers all purges before.
 //!
 //! The laws (`src/laws.rt`):
 //!

@@ -17,7 +17,9 @@ pub struct Outcome {
     pub answer: Option<u64>,
     /// The number of the purge that was issued, if any.
     pub purge: Option<u32>,
-    /// The number and status of a purge, if a member answered its CLR or somebody asked for it.
+    /// The number of the admission, if a member was admitted.
+    pub admitted: Option<u32>,
+    /// A number and its status, if a member answered its CLR or somebody asked for it.
     pub status: Option<(u32, Status)>,
     /// The serial of the round of queries that a member began, if any.
     pub round: Option<u32>,
@@ -36,7 +38,7 @@ pub struct Outcome {
 pub enum ActorFault {
     /// A member's step was refused.
     Step(StepFault),
-    /// The master refused to issue a purge.
+    /// The master refused to issue a purge or to admit a member.
     Master(MasterFault),
 }
 

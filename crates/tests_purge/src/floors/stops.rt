@@ -1,9 +1,9 @@
-//! Raises over files that stop after so many calls, and files of form 1 that stop as they are
-//! brought to form 2.
+//! Raises of keys and of the base over files that stop after so many calls, and files of form 1
+//! that stop as they are brought to form 2.
 //!
 //! What is done with a store is written for any store below it: a proof then speaks of none in
 //! particular.
-use super::{FLOORS, floor, loaded, raise};
+use super::{FLOORS, floor, loaded, raise, raise_base};
 use crate::disks::{Disks, FORM, VERSION, closed, connected, crashed, files, stopping};
 use floor_rules::{FloorFault, FloorStore};
 use purge_numbers::SqliteFloors;
@@ -108,6 +108,23 @@ fn raised<F: FloorStore>(store: &mut F, alloc: Global, number: u32) -> Result<bo
     Ok(false)
 }
 
+/// A file of form 2 with two floors.
+fn two_files(alloc: Global) -> Result<Files<Disks>, Fail> {
+    made_by(alloc, first_files(alloc)?, &[TWO_ROWS])
+}
+
+/// The same of the base.
+fn rebased<F: FloorStore>(store: &mut F, number: u32) -> Result<bool, Fail> {
+    if raise_base(store, number)? == Ok(()) {
+        return Ok(true);
+    }
+    want(store.failures() == 1, "one failure")?;
+    let later = raise_base(store, number)?;
+    want(later == Err(FloorFault::StoreFault), "a store fault again")?;
+    want(store.failures() == 2, "two failures")?;
+    Ok(false)
+}
+
 /// What is done with a store that opens.
 #[derive(Clone, Copy)]
 enum Doing {
@@ -115,6 +132,8 @@ enum Doing {
     Open,
     /// `http://a/` is raised to this number.
     Raise(u32),
+    /// The base is raised to this number.
+    RaiseBase(u32),
 }
 
 /// Does that with a store that has opened, and answers whether it went and what is left below the
@@ -127,6 +146,7 @@ fn done<S: Alter + Drop>(
     let went = match doing {
         Doing::Open => true,
         Doing::Raise(number) => raised(&mut store, alloc, number)?,
+        Doing::RaiseBase(number) => rebased(&mut store, number)?,
     };
     Ok((went, store.into_connection().into_store()))
 }
@@ -206,6 +226,13 @@ const BASE: Stops = Stops {
     after: (0, 70_000, 70_000, 70_000),
 };
 
+/// A raise of the base, over which one floor stays.
+const HIGHER: Stops = Stops {
+    doing: Doing::RaiseBase(4),
+    before: (2, 0, 3, 5),
+    after: (2, 4, 4, 5),
+};
+
 /// A file of form 1 is brought to form 2.
 const OLDER: Stops = Stops {
     doing: Doing::Open,
@@ -226,8 +253,8 @@ fn stopped(
     Ok((went, found_in(alloc, crashed(alloc, left)?)?))
 }
 
-/// At a stop of one of both files after so many calls the floors are those from before or after, and
-/// those from after where it went. Answers whether it did.
+/// At a stop of one of both files after so many calls the floors are those from before or after,
+/// and those from after where it went. Answers whether it did.
 fn stop_at(
     alloc: Global,
     first: &Files<Disks>,
@@ -265,26 +292,31 @@ fn stops_of(
     Ok(false)
 }
 
-/// The stops after 0 to 16 calls, and then after twice as many each time, until it goes: where there
-/// are a thousand, each of which takes half a second.
-fn sparse_stops(
-    alloc: Global,
-    first: &Files<Disks>,
-    stops: Stops,
-    main_file: bool,
-) -> Result<(), Fail> {
-    let mut calls = 0u64;
-    for _ in 0..40 {
-        if stop_at(alloc, first, stops, main_file, calls)? {
-            return Ok(());
-        }
-        calls = if calls < 16 {
-            calls.saturating_add(1)
+/// The least number of calls of the main file with which it goes, of 16,384 at most.
+fn least_that_goes(alloc: Global, first: &Files<Disks>, stops: Stops) -> Result<u64, Fail> {
+    let (mut less, mut enough) = (0u64, 16_384u64);
+    for _ in 0..14 {
+        let calls = less.saturating_add(enough) / 2;
+        if stop_at(alloc, first, stops, true, calls)? {
+            enough = calls;
         } else {
-            calls.saturating_mul(2)
-        };
+            less = calls;
+        }
     }
-    Err("an end of the stops".into())
+    Ok(enough)
+}
+
+/// The stops of the main file around the first at which it goes: before it the open reads that file
+/// page by page, and behind it the close writes to it. Each of these stops takes half a second.
+fn stops_around(alloc: Global, first: &Files<Disks>, stops: Stops) -> Result<(), Fail> {
+    let least = least_that_goes(alloc, first, stops)?;
+    let went = stops_of(alloc, first, stops, true, least.saturating_sub(8), least)?;
+    want(!went, "stops before it goes")?;
+    for more in 0..16 {
+        let went = stop_at(alloc, first, stops, true, least.saturating_add(more))?;
+        want(went, "stops behind it")?;
+    }
+    Ok(())
 }
 
 fn row_stops(alloc: Global, main_file: bool, from: u64, to: u64) -> Result<bool, Fail> {
@@ -330,17 +362,33 @@ fn all_stops(alloc: Global, first: &Files<Disks>, stops: Stops) -> Result<(), Fa
     Ok(())
 }
 
+fn base_stops(alloc: Global, from: u64, to: u64) -> Result<bool, Fail> {
+    stops_of(alloc, &full_files(alloc)?, BASE, false, from, to)
+}
+
 #[test]
-fn a_log_that_stops_as_the_base_is_made(rt: HostRuntime) -> Result<(), Fail> {
-    sparse_stops(rt.alloc(), &full_files(rt.alloc())?, BASE, false)
+fn a_log_that_stops_at_once_as_the_base_is_made(rt: HostRuntime) -> Result<(), Fail> {
+    let _went = base_stops(rt.alloc(), 0, 16)?;
+    Ok(())
+}
+
+#[test]
+fn a_log_that_stops_late_or_never_as_the_base_is_made(rt: HostRuntime) -> Result<(), Fail> {
+    assert!(rt; base_stops(rt.alloc(), 16, 100)?);
+    Ok(())
 }
 
 #[test]
 fn a_main_file_that_stops_as_the_base_is_made(rt: HostRuntime) -> Result<(), Fail> {
-    sparse_stops(rt.alloc(), &full_files(rt.alloc())?, BASE, true)
+    stops_around(rt.alloc(), &full_files(rt.alloc())?, BASE)
 }
 
 #[test]
 fn files_of_form_1_that_stop_as_they_are_brought_over(rt: HostRuntime) -> Result<(), Fail> {
     all_stops(rt.alloc(), &older_files(rt.alloc())?, OLDER)
+}
+
+#[test]
+fn files_that_stop_as_the_base_rises(rt: HostRuntime) -> Result<(), Fail> {
+    all_stops(rt.alloc(), &two_files(rt.alloc())?, HIGHER)
 }

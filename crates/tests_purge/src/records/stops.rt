@@ -2,8 +2,9 @@
 //!
 //! What is done with a store is written for any store below it: a proof then speaks of none in
 //! particular.
-use crate::calls::{add, loaded, mark};
-use crate::disks::{Disks, closed, connected, crashed, files, stopping};
+use super::{ACKS, LAST, PENDING};
+use crate::calls::{add, admit, loaded, mark};
+use crate::disks::{Disks, FORM, VERSION, closed, connected, crashed, files, stopping};
 use purge_records::SqlitePurges;
 use purge_rules::{PurgeFault, PurgeStore};
 use sqlite::{Alter, Connection, Files};
@@ -16,8 +17,14 @@ use tests_kit::want;
 #[derive(Clone, Copy)]
 enum Step {
     Add,
+    Admit,
     Mark,
+    /// A purge is finished.
     Finish,
+    /// An admission is finished.
+    End,
+    /// No call is made: the open alone is stopped.
+    Open,
 }
 
 /// What became of a call.
@@ -39,10 +46,11 @@ fn stored<S: Alter + Drop>(alloc: Global, conn: Connection<S>) -> Result<SqliteP
     }
 }
 
-/// Adds the purges 1, which one member acknowledges, and 2.
+/// Adds the purges 1, which one member acknowledges, and 2, and admits member 9 as 3.
 fn fill<P: PurgeStore>(store: &mut P, alloc: Global) -> Result<(), Fail> {
     want(add(store, alloc, 1, "http://a/")? == Ok(()), "first")?;
     want(add(store, alloc, 2, "http://b/")? == Ok(()), "second")?;
+    want(admit(store, alloc, 3, 9)? == Ok(()), "admitted")?;
     want(mark(store, alloc, 1, 5)? == Ok(()), "marked")
 }
 
@@ -84,8 +92,11 @@ fn call<P: PurgeStore>(
 ) -> Result<Result<(), PurgeFault>, Fail> {
     match step {
         Step::Add => add(store, alloc, 7, "http://c/"),
+        Step::Admit => admit(store, alloc, 7, 4),
         Step::Mark => mark(store, alloc, 1, 6),
         Step::Finish => Ok(store.finish(alloc, 1)),
+        Step::End => Ok(store.finish(alloc, 3)),
+        Step::Open => Ok(Ok(())),
     }
 }
 
@@ -104,8 +115,9 @@ fn called<P: PurgeStore>(store: &mut P, alloc: Global, step: Step) -> Result<End
 }
 
 /// What tells the purges from before the call and after it: the last number, how many are pending,
-/// how many members have acknowledged the first, and whether member 5 has.
-type Seen = (u32, usize, u8, bool);
+/// how many members have acknowledged the first, whether member 5 has, how many admissions there
+/// are, and whether that of the number 3 is done.
+type Seen = (u32, usize, u8, bool, usize, bool);
 
 fn seen<P: PurgeStore>(store: &mut P, alloc: Global) -> Result<Seen, Fail> {
     let purges = loaded(store, alloc)?;
@@ -113,18 +125,36 @@ fn seen<P: PurgeStore>(store: &mut P, alloc: Global) -> Result<Seen, Fail> {
         Some(purge) => (purge.marked.count(), purge.marked.has(5)),
         None => (0, false),
     };
-    Ok((purges.last(), purges.len(), marked, by_fifth))
+    let is_done = match purges.admission_at(3) {
+        Some(admission) => admission.is_done,
+        None => false,
+    };
+    let admitted = purges.admissions().len();
+    Ok((
+        purges.last(),
+        purges.len(),
+        marked,
+        by_fifth,
+        admitted,
+        is_done,
+    ))
 }
 
-const BEFORE: Seen = (2, 2, 1, true);
+const BEFORE: Seen = (3, 2, 1, true, 1, false);
 
 fn after(step: Step) -> Seen {
     match step {
-        Step::Add => (7, 3, 1, true),
-        Step::Mark => (2, 2, 2, true),
-        Step::Finish => (2, 1, 0, false),
+        Step::Add => (7, 3, 1, true, 1, false),
+        Step::Admit => (7, 2, 1, true, 2, false),
+        Step::Mark => (3, 2, 2, true, 1, false),
+        Step::Finish => (3, 1, 0, false, 1, false),
+        Step::End => (3, 2, 1, true, 1, true),
+        Step::Open => OLDER,
     }
 }
+
+/// What a file of form 1 holds, before it is brought to form 2 and after it.
+const OLDER: Seen = (9, 1, 1, true, 0, false);
 
 /// Makes the call, and answers how it ended and what is left below the store.
 fn called_once<S: Alter + Drop>(
@@ -224,14 +254,17 @@ fn stop_at(
 /// With so many calls of either file it does not open yet, and with one more it does.
 const OPENING: u64 = 27;
 
+/// With so many calls more each call goes, and its close too.
+const STOPS: u64 = 40;
+
 /// Stops the call at each of its calls of the disk: from one at which the file does not open, to
 /// one at which the call has gone and its close is stopped.
-fn stops_of(alloc: Global, step: Step, main_file: bool, stops: u64) -> Result<(), Fail> {
+fn stops_of(alloc: Global, step: Step, main_file: bool) -> Result<(), Fail> {
     let first = first_files(alloc)?;
     let begun = stop_at(alloc, &first, step, main_file, OPENING)?;
     want(begun == End::Unopened, "a file that does not open")?;
     let mut end = begun;
-    for more in 1..=stops {
+    for more in 1..=STOPS {
         end = stop_at(alloc, &first, step, main_file, OPENING.saturating_add(more))?;
     }
     want(end == End::Went, "a call that goes")
@@ -239,50 +272,138 @@ fn stops_of(alloc: Global, step: Step, main_file: bool, stops: u64) -> Result<()
 
 #[test]
 fn an_add_whose_log_stops(rt: HostRuntime) -> Result<(), Fail> {
-    stops_of(rt.alloc(), Step::Add, false, 8)
+    stops_of(rt.alloc(), Step::Add, false)
+}
+
+#[test]
+fn an_admission_whose_log_stops(rt: HostRuntime) -> Result<(), Fail> {
+    stops_of(rt.alloc(), Step::Admit, false)
 }
 
 #[test]
 fn a_mark_whose_log_stops(rt: HostRuntime) -> Result<(), Fail> {
-    stops_of(rt.alloc(), Step::Mark, false, 8)
+    stops_of(rt.alloc(), Step::Mark, false)
 }
 
 #[test]
 fn a_finish_whose_log_stops(rt: HostRuntime) -> Result<(), Fail> {
-    stops_of(rt.alloc(), Step::Finish, false, 8)
+    stops_of(rt.alloc(), Step::Finish, false)
+}
+
+#[test]
+fn the_end_of_an_admission_whose_log_stops(rt: HostRuntime) -> Result<(), Fail> {
+    stops_of(rt.alloc(), Step::End, false)
 }
 
 #[test]
 fn an_add_whose_main_file_stops(rt: HostRuntime) -> Result<(), Fail> {
-    stops_of(rt.alloc(), Step::Add, true, 4)
+    stops_of(rt.alloc(), Step::Add, true)
+}
+
+#[test]
+fn an_admission_whose_main_file_stops(rt: HostRuntime) -> Result<(), Fail> {
+    stops_of(rt.alloc(), Step::Admit, true)
 }
 
 #[test]
 fn a_mark_whose_main_file_stops(rt: HostRuntime) -> Result<(), Fail> {
-    stops_of(rt.alloc(), Step::Mark, true, 4)
+    stops_of(rt.alloc(), Step::Mark, true)
 }
 
 #[test]
 fn a_finish_whose_main_file_stops(rt: HostRuntime) -> Result<(), Fail> {
-    stops_of(rt.alloc(), Step::Finish, true, 4)
+    stops_of(rt.alloc(), Step::Finish, true)
 }
 
-/// Whether the main file stops and not the log, and after how many calls.
-const OPENS: [(bool, u64); 6] = [
-    (false, 0),
-    (false, 9),
-    (false, 18),
-    (true, 0),
-    (true, 9),
-    (true, 18),
-];
+#[test]
+fn the_end_of_an_admission_whose_main_file_stops(rt: HostRuntime) -> Result<(), Fail> {
+    stops_of(rt.alloc(), Step::End, true)
+}
+
+/// The connection after these statements.
+fn run<S: Alter + Drop>(
+    mut conn: Connection<S>,
+    statements: &[&str],
+) -> Result<Connection<S>, Fail> {
+    for statement in statements {
+        conn.execute_batch(statement)?;
+    }
+    Ok(conn)
+}
+
+/// Files whose tables these statements make.
+fn made_by<D: Disk + Drop>(
+    alloc: Global,
+    files: Files<D>,
+    statements: &[&str],
+) -> Result<Files<D>, Fail> {
+    match connected(alloc, files) {
+        Ok(conn) => closed(run(conn, statements)?),
+        Err(_) => Err("first files".into()),
+    }
+}
+
+const OLDER_ROWS: &str =
+    "INSERT INTO last VALUES (1, 9); INSERT INTO pending VALUES (1, 'http://a/'); INSERT INTO acks VALUES (1, 5)";
+
+/// A file of form 1 with a pending purge that member 5 has acknowledged.
+fn older_files(alloc: Global) -> Result<Files<Disks>, Fail> {
+    let new = files(Memory::new(alloc), Memory::new(alloc), u64::MAX, u64::MAX);
+    made_by(
+        alloc,
+        new,
+        &[FORM, LAST, PENDING, ACKS, VERSION, OLDER_ROWS],
+    )
+}
+
+/// At each stop of the log, or of the main file, a file of form 1 has the same purges. Answers
+/// whether it was brought to form 2, which ends the run.
+fn older_stops(alloc: Global, main_file: bool) -> Result<bool, Fail> {
+    let first = older_files(alloc)?;
+    for calls in 0..1000 {
+        let (log_calls, db_calls) = if main_file {
+            (u64::MAX, calls)
+        } else {
+            (calls, u64::MAX)
+        };
+        let (end, seen) = stopped(alloc, &first, Step::Open, log_calls, db_calls)?;
+        want(seen == OLDER, "the purges of form 1")?;
+        if end == End::Went {
+            return Ok(true);
+        }
+    }
+    Ok(false)
+}
 
 #[test]
-fn opens_that_stop(rt: HostRuntime) -> Result<(), Fail> {
-    let first = first_files(rt.alloc())?;
-    for (main_file, calls) in OPENS {
-        let end = stop_at(rt.alloc(), &first, Step::Finish, main_file, calls)?;
-        assert!(rt; end == End::Unopened);
+fn a_file_of_form_1_whose_log_stops(rt: HostRuntime) -> Result<(), Fail> {
+    assert!(rt; older_stops(rt.alloc(), false)?);
+    Ok(())
+}
+
+#[test]
+fn a_file_of_form_1_whose_main_file_stops(rt: HostRuntime) -> Result<(), Fail> {
+    assert!(rt; older_stops(rt.alloc(), true)?);
+    Ok(())
+}
+
+/// At each stop of the log, or of the main file, the file does not open, and its purges are those
+/// from before.
+fn opens_that_stop(alloc: Global, main_file: bool) -> Result<(), Fail> {
+    let first = first_files(alloc)?;
+    for calls in 0..OPENING {
+        let end = stop_at(alloc, &first, Step::Finish, main_file, calls)?;
+        want(end == End::Unopened, "a file that does not open")?;
     }
     Ok(())
+}
+
+#[test]
+fn an_open_whose_log_stops(rt: HostRuntime) -> Result<(), Fail> {
+    opens_that_stop(rt.alloc(), false)
+}
+
+#[test]
+fn an_open_whose_main_file_stops(rt: HostRuntime) -> Result<(), Fail> {
+    opens_that_stop(rt.alloc(), true)
 }

@@ -1,5 +1,5 @@
 -- The nodes are those of the members so far; the next one is pushed behind them.
-use Rattle.std.proofs.Common.{◌≡◌, ◌+◌, ◌∙◌, ap, not, true, arith, refl}
+use Rattle.std.proofs.Common.{◌≡◌, ◌+◌, ◌∙◌, ap, not, true, refl}
 use Rattle.std.specs.Result.{is_ok}
 use Rattle.floor_rules.specs.Floors.{no_floors}
 use Rattle.node_rules.specs.State.{opened}

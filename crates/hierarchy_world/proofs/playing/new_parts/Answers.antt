@@ -19,7 +19,7 @@ returns-clause-sound c =
       waiting = c.new-5.result;
       place = 1;
     })
-    c.args.roster.now c.in_ok-copy.ensures.value c.in_ok-nodes.ensures.made c.in-Ok.ensures.members
+    c.args.roster.now c.in_ok-copy.ensures.value c.in_ok-nodes.ensures.made c.in-Ok.ensures.nodes
     (c.in-Ok.ensures.state tt ∙ ap (λ (p : PurgeList). opened p) c.new.ensures)
 
 pub returns-clause-world : goal.returns-clause-world

@@ -1,9 +1,7 @@
-use Rattle.std.proofs.Common.{◌≡◌, ◌++◌, [], Some, rules, arith}
+use Rattle.std.proofs.Common.{◌≡◌, ◌++◌, [], rules, arith}
 use Rattle.std.specs.List.{cons_option}
-use Rattle.roster.specs.Lookups.{member_of}
 use Rattle.purge_rules.specs.Members.{possible_ids}
-use Rattle.purge_rules.specs.Clear.{clear}
-use Rattle.world_rules.specs.Consequence.{clear_to}
+use Rattle.world_rules.specs.Consequence.{clear_if}
 use Rattle.hierarchy_world.proofs.Numbers.{made_more}
 use Rattle.hierarchy_world.proofs.purging.new_clears.Goals as goal
 use Rattle.hierarchy_world.proofs.purging.new_clears.Goals.{in-Some+in_ok-push, in_default}
@@ -12,6 +10,5 @@ pub loop-id-preserved : goal.loop-id-preserved
 loop-id-preserved c =
     let more : c.match-branch-3.made.items ≡ c.loop-id.made.items ++ cons_option c.in_ok-datagram.field-0 [] =
     elim c.match-branch-3.branch [ in-Some+in_ok-push w ↦ search rules | in_default w ↦ search rules ] in
-    made_more (λ id. clear_to c.args.roster.now (Some (clear c.args.number c.args.key.now)) (member_of c.args.roster.now id)) possible_ids c.loop-id.id-index _
-    0
+    made_more (clear_if c.args.roster.now c.args.needed c.args.number c.args.key.now) possible_ids c.loop-id.id-index _ 0
     c.loop-id.made.items c.match-branch-3.made.items c.in_ok-datagram.field-0 (omega arith) (omega arith) c.loop-id.invariant c.in_ok-datagram.ensures more

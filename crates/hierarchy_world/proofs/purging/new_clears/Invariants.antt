@@ -1,10 +1,7 @@
-use Rattle.std.proofs.Common.{◌≡◌, take, flat_map, Some}
-use Rattle.roster.specs.Lookups.{member_of}
+use Rattle.std.proofs.Common.{◌≡◌, take, flat_map}
 use Rattle.purge_rules.specs.Members.{possible_ids}
-use Rattle.purge_rules.specs.Clear.{clear}
-use Rattle.world_rules.specs.Consequence.{clear_to}
+use Rattle.world_rules.specs.Consequence.{clear_if}
 use Rattle.hierarchy_world.proofs.purging.new_clears.Given as goal
 
 abbrev pub invariant-loop-id : goal.invariant-loop-id
-invariant-loop-id l = l.made.items ≡ flat_map (λ id. clear_to l.fn.roster (Some (clear l.fn.number l.fn.key)) (member_of l.fn.roster id))
-    (take l.id-index possible_ids)
+invariant-loop-id l = l.made.items ≡ flat_map (clear_if l.fn.roster l.fn.needed l.fn.number l.fn.key) (take l.id-index possible_ids)

@@ -1,5 +1,6 @@
 use Rattle.std.proofs.Common.{ap, Err, length, ◌∙◌}
-use Rattle.http_reading.proofs.AskLemmas.{head_read, head_stops, few_read}
+use Rattle.http_intake.specs.Heads.{head_window}
+use Rattle.http_reading.proofs.AskLemmas.{head_read, head_stops, fault_made, few_read}
 use Rattle.http_reading.proofs.ask.read_ask.Goals as goal
 
 pub returns-in-Ok : goal.returns-in-Ok
@@ -14,12 +15,14 @@ returns-in-Ok g c =
 pub returns : goal.returns
 returns g c =
     let taken = rw c.new-intake.ensures at c.in-Err.ensures.taken in
-    record {
-      held = c.read_request_head.new.self;
+    let held = c.read_request_head.new.self in
+    let told = rw c.window-in-Err.ensures.value at c.fault_in.ensures in
+    rw told (record {
+      held = held;
       taken = taken;
-      few = few_read c.new-intake.result c.read_request_head.new.self c.new-intake.ensures c.in-Err.ensures.no_more;
-      made = c.in-Err.ensures.last;
-      outcome = head_stops (g.R.Read.remaining c.read_request_head.new.reader) c.read_request_head.new.self c.in-Err.fault c.in-Err.ensures.faults
+      few = few_read c.new-intake.result held c.new-intake.ensures c.in-Err.ensures.no_more;
+      made = fault_made (head_window 0 held.octets) c.in-Err.fault held.calls c.in-Err.ensures.last;
+      outcome = head_stops (g.R.Read.remaining c.read_request_head.new.reader) held c.in-Err.fault c.in-Err.ensures.faults
           (λ e. c.in-Err.ensures.bad (ap Err e)) (λ e. c.in-Err.ensures.long (ap Err e)) c.in-Err.ensures.open (λ e. c.in-Err.ensures.ended (ap Err e))
           (λ e. c.in-Err.ensures.spent (ap Err e));
-    }
+    })

@@ -7,7 +7,7 @@ use Rattle.httparse.specs.Spans.{header_bytes}
 use Rattle.http_messages.specs.declared.fault.FetchFault.TheVariants.{BadHead}
 use Rattle.http_messages.specs.Field.{FieldText, field_text, is_trimmed, are_few_fields}
 use Rattle.http_reading.specs.Fields.{fields_of}
-use Rattle.http_reading.specs.Kept.{kept_text, options_of, kept}
+use Rattle.http_reading.specs.Kept.{kept_text, kept_by, options_of, kept}
 use Rattle.http_reading.proofs.Keeping.{kept_from, kept_from-kept, kept_from-dropped, held_at, same_pushed, held_pushed, may_stand}
 use Rattle.http_reading.proofs.HeadFields.{CanBeKept-head}
 use Rattle.http_reading.proofs.kept.kept_fields.Goals as goal
@@ -32,6 +32,14 @@ returns-in_err-field-clause-of_head c head are same b =
     let can = CanBeKept-head head (fields_of c.args.window.now c.args.headers.now) are same few in
     c.field_at.ensures.bad_head bad
     (held_at c.args.window.now c.args.headers.now c.loop-header.header-index nowhere c.loop-header-test.true can (sym c.is_kept.ensures ∙ c.if-is_kept.true))
+
+pub loop-header-init : goal.loop-header-init
+loop-header-init c =
+    let options = options_of (fields_of c.args.window.now c.args.headers.now) in
+    record {
+      same = ap (λ (ms : List FieldText). ms ++ kept_by options (fields_of c.args.window.now c.args.headers.now)) c.in_ok-fields.ensures.marks;
+      held = c.in_ok-fields.ensures.held;
+    }
 
 pub loop-header-preserved : goal.loop-header-preserved
 unfolding nowhere

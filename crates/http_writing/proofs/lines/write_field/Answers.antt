@@ -11,4 +11,5 @@ returns-in_err-write-clause-written g c =
 
 pub returns-clause-written : goal.returns-clause-written
 returns-clause-written g c =
-    writes_then _ _ _ c.args.name.now (codes ": " ++ (c.args.value.now ++ crlf)) c.write_three.result c.in_ok-write.ensures.written c.write_three.ensures.written
+    writes_then _ _ _ c.args.name.now (codes ": " ++ (c.args.value.now ++ crlf)) c.write_three.result c.in_ok-write.ensures.written
+    c.write_three.ensures.written

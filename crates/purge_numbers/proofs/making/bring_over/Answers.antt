@@ -10,7 +10,8 @@ pub returns-clause-made : goal.returns-clause-made
 returns-clause-made g c = commits (state g.S.Store c.add_base.new.tx.conn.now) (state g.S.Store c.commit.new.self.0) _ _ c.commit.result
     (λ (s : State). IsFormOne (state g.S.Store c.args.conn.now).now → IsMade ((state g.S.Store c.args.conn.now).now.trees 1) s)
     c.commit.ensures.ok c.commit.ensures.survives (λ clean done one.
-    let it = (c.in_ok-add_base.ensures.made clean _ _ one.1 (rw c.transaction-tx.ensures.begun refl) (rw c.transaction-tx.ensures.begun (one.0, refl, refl))).1 in record {
+    let it = (c.in_ok-add_base.ensures.made clean _ _ one.1 (rw c.transaction-tx.ensures.begun refl)
+    (rw c.transaction-tx.ensures.begun (one.0, refl, refl))).1 in record {
       is_open = done.is_open;
       autocommit = done.autocommit;
       committed = done.committed ∙ sym done.now;

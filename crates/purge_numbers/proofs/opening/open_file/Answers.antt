@@ -27,7 +27,8 @@ returns-clause-found g c =
     let autocommit = off _ (sym c.if-not-is_autocommit.false ∙ c.is_autocommit.ensures.value) in
     let new = state g.S.Store c.read_file.new.conn in
     ok_then c.read_file.result
-    (HasCleanDisk new → IsNodeFile (state g.S.Store c.make_where_blank.new.conn) × OpensWith (state g.S.Store c.make_where_blank.new.conn) (committed_floors new))
+    (HasCleanDisk new → IsNodeFile (state g.S.Store c.make_where_blank.new.conn)
+    × OpensWith (state g.S.Store c.make_where_blank.new.conn) (committed_floors new))
     (HasCleanDisk new → OpensWith (state g.S.Store c.args.conn.now) (committed_floors new)) c.read_file.ensures.found (λ found clean.
     opens_same (state g.S.Store c.set_step_limit.new.self) (state g.S.Store c.args.conn.now) (committed_floors new)
     (ap (λ h. (state g.S.Store h).in_transaction) lifted) (ap (λ h. (state g.S.Store h).now) lifted) (ap (λ h. (state g.S.Store h).committed) lifted)

@@ -7,7 +7,8 @@ use Rattle.purge_numbers.proofs.OpenLemmas.{not_added, too_many, read_rows}
 use Rattle.purge_numbers.proofs.opening.read_floors.Goals as goal
 
 pub returns-in-Ok-clause-read : goal.returns-in-Ok-clause-read
-returns-in-Ok-clause-read g c = read_rows ((state g.S.Store c.args.conn.now).now.trees 1) c.in-Ok.rows.items (HasCleanDisk (state g.S.Store c.floor_rows.new.conn))
+returns-in-Ok-clause-read g c = read_rows ((state g.S.Store c.args.conn.now).now.trees 1) c.in-Ok.rows.items
+    (HasCleanDisk (state g.S.Store c.floor_rows.new.conn))
     c.floors_of.result c.in-Ok.ensures.rows (omega (arith, c.if-len-le-MOST_ROWS.true, c.len.ensures)) (rw c.deref.ensures.value at c.floors_of.ensures.ok)
 
 pub returns-in-Ok-clause-bad : goal.returns-in-Ok-clause-bad

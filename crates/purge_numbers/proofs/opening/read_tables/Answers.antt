@@ -12,7 +12,8 @@ use Rattle.purge_numbers.proofs.opening.read_tables.Goals as goal
 
 pub returns-clause-read : goal.returns-clause-read
 returns-clause-read g c = read_back (λ (d : Database) (floors : FloorTable). IsFormTwo d × AreFloors (d.trees 1) × (floors ≡ floors_in d.trees))
-    (state g.S.Store c.args.conn.now).now (state g.S.Store c.check_version.new.conn).now (HasCleanDisk (state g.S.Store c.read_second.new.conn)) c.read_second.result
+    (state g.S.Store c.args.conn.now).now (state g.S.Store c.check_version.new.conn).now
+    (HasCleanDisk (state g.S.Store c.read_second.new.conn)) c.read_second.result
     (λ clean. (c.in_ok-check_version.ensures.same (omega (arith, c.read_second.ensures.survives.clean, clean))).0.now_is) c.read_second.ensures.read
 
 pub returns-clause-bad : goal.returns-clause-bad

@@ -1,7 +1,8 @@
 use Rattle.std.proofs.Common.{arith}
 use Rattle.sqlite.specs.Held.{state}
 use Rattle.purge_tables.proofs.Texts.{version_text}
-use Rattle.purge_numbers.proofs.LoadLemmas.{asks_rows, asks_same, asks_only, version_plain, versions_shown}
+use Rattle.purge_tables.proofs.QueryLemmas.{asks_rows, asks_same, asks_only}
+use Rattle.purge_numbers.proofs.LoadLemmas.{version_plain, versions_shown}
 use Rattle.purge_numbers.proofs.opening.version_rows.Goals as goal
 
 pub returns-clause-rows : goal.returns-clause-rows
@@ -14,11 +15,13 @@ returns-clause-rows g c =
 pub returns-clause-same : goal.returns-clause-same
 returns-clause-same g c =
     let old = state g.S.Store c.args.conn.now in
-    asks_same version_text old (state g.S.Store c.query_all.new.self) (λ clean. version_plain old c.requires) (λ clean. omega (arith, c.query_all.ensures.survives.clean)) _
+    asks_same version_text old (state g.S.Store c.query_all.new.self) (λ clean. version_plain old c.requires)
+    (λ clean. omega (arith, c.query_all.ensures.survives.clean)) _
     c.query_all.ensures.ok
 
 pub returns-clause-survives : goal.returns-clause-survives
 returns-clause-survives g c =
     let old = state g.S.Store c.args.conn.now in
-    asks_only version_text old (state g.S.Store c.query_all.new.self) (λ clean. version_plain old c.requires) (λ clean. omega (arith, c.query_all.ensures.survives.clean))
+    asks_only version_text old (state g.S.Store c.query_all.new.self) (λ clean. version_plain old c.requires)
+    (λ clean. omega (arith, c.query_all.ensures.survives.clean))
     c.query_all.ensures.survives

@@ -24,7 +24,8 @@ returns-clause-made g c = commits (state g.S.Store c.replace.new.tx.conn.now) (s
     (_, (c.in_ok-replace.ensures.made clean (rw c.transaction-tx.ensures.begun refl) (rw c.transaction-tx.ensures.begun node)).1, done)) (search rules)
 
 pub returns-clause-failed : goal.returns-clause-failed
-returns-clause-failed g c = fails_at_commit g.S.Store c.args.conn.now c.replace.new.tx.conn.now c.commit.new.self.0 c.conn-2-1.given.0 _ c.args.number _ c.commit.result
+returns-clause-failed g c = fails_at_commit g.S.Store c.args.conn.now c.replace.new.tx.conn.now c.commit.new.self.0 c.conn-2-1.given.0 _
+    c.args.number _ c.commit.result
     c.commit.ensures.survives (search rules) c.commit.ensures.err (λ clean.
     subst (λ h. Rebases g.S.Store h c.replace.new.tx.conn.now c.args.number) c.transaction-tx.ensures.begun
     (c.in_ok-replace.ensures.ran clean (rw c.transaction-tx.ensures.begun refl)))

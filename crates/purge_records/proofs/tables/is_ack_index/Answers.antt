@@ -9,7 +9,8 @@ pub returns-clause-yes : goal.returns-clause-yes
 returns-clause-yes c unique =
     let i = c.args.index.now in
     let order : i.order ≡ record { digits = 0 } = λ k. record { digits = (let zero : i.order.digits ≡ 0 = omega arith in zero) k } in
-    same_index i ack_index (c.if-not-is_named.ensures.yes refl ∙ c.as_slice.ensures ∙ ap (λ d. codes "sqlite_autoindex_acks_" ++ d) (sym one_digit)) (omega arith) (omega arith) (c.if-not-is_pair.ensures.yes refl) order unique
+    same_index i ack_index (c.if-not-is_named.ensures.yes refl ∙ c.as_slice.ensures ∙ ap (λ d. codes "sqlite_autoindex_acks_" ++ d) (sym one_digit))
+    (omega arith) (omega arith) (c.if-not-is_pair.ensures.yes refl) order unique
 
 pub returns-then-not-is_named-clause-no : goal.returns-then-not-is_named-clause-no
 returns-then-not-is_named-clause-no c refused is =

@@ -3,5 +3,5 @@ use Rattle.purge_rules.proofs.sending.clear.Goals as goal
 
 pub returns-clause-fits : goal.returns-clause-fits
 returns-clause-fits c =
-    rw (c.in_ok-from_slice.ensures, c.in_ok-from_slice-2.ensures, c.text.ensures.value, c.in_ok-from_slice-3.ensures, c.in_ok-number_line.ensures)
+    rw (c.in_ok-clear_with.ensures, c.in_ok-uri.ensures, c.text.ensures.value, c.in_ok-line.ensures)
     (clear_fits c.args.number c.args.key.now c.text.ensures.valid c.ranges.number.fits)

@@ -10,4 +10,5 @@ returns-then-last-node c =
     let r = c.index-records-at.result in
     let here : at ≡ suc (at - 1) = omega arith in
     let same : nat_eq r.node c.args.node ≡ true = same_node r.node c.args.node c.if-last-node.true in
-    sym (last_at c.args.node (at - 1) r rs (omega arith) c.index-records-at.is same (subst (λ n. last_of c.args.node (drop n rs) ≡ None) here c.loop-at.invariant))
+    sym (last_at c.args.node (at - 1) r rs (omega arith) c.index-records-at.is same
+    (subst (λ n. last_of c.args.node (drop n rs) ≡ None) here c.loop-at.invariant))

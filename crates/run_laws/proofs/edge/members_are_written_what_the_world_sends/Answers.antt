@@ -1,4 +1,3 @@
-use Rattle.std.proofs.Common.{◌≡◌, ℕ, List, Some, refl}
 use Rattle.run_laws.proofs.Written.{written}
 use Rattle.run_laws.proofs.edge.members_are_written_what_the_world_sends.Goals as goal
 

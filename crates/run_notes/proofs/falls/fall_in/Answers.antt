@@ -1,4 +1,4 @@
-use Rattle.std.proofs.Common.{◌≡◌, take, ◌+◌, sym, ◌∙◌, arith, rules}
+use Rattle.std.proofs.Common.{take, ◌+◌, sym, ◌∙◌, arith, rules}
 use Rattle.run_rules.specs.Notes.{places_in}
 use Rattle.run_notes.specs.Held.{track_of}
 use Rattle.run_notes.proofs.Falling.{fallen_more, fallen_same, fallen_by}

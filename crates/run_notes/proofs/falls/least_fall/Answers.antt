@@ -1,6 +1,6 @@
-use Rattle.std.proofs.Common.{◌≡◌, ◌∙◌, ap, arith}
+use Rattle.std.proofs.Common.{◌∙◌, ap, arith}
 use Rattle.run_rules.specs.Notes.{least, falls, places_in, least_fall}
-use Rattle.run_notes.specs.Held.{track_of, tracks_in, lesser_fall}
+use Rattle.run_notes.specs.Held.{track_of, lesser_fall}
 use Rattle.run_notes.proofs.Falling.{fall_more}
 use Rattle.run_notes.proofs.falls.least_fall.Goals as goal
 

@@ -1,4 +1,4 @@
-use Rattle.std.proofs.Common.{◌≡◌, ◌∷◌, ◌++◌, ◌∙◌, ap}
+use Rattle.std.proofs.Common.{◌∷◌, ◌++◌, ◌∙◌, ap}
 use Rattle.run_rules.specs.Notes.{Closes, steps_of, last_place}
 use Rattle.run_notes.specs.Held.{track_of}
 use Rattle.run_notes.proofs.Stacks.{pushed_is}

@@ -1,4 +1,4 @@
-use Rattle.std.proofs.Common.{◌≡◌, ◌∷◌, ◌-◌, drop, sym, ◌∙◌, ap, arith}
+use Rattle.std.proofs.Common.{◌≡◌, ◌∷◌, ◌-◌, drop, ◌∙◌, arith}
 use Rattle.run_notes.specs.Held.{track_of}
 use Rattle.run_notes.proofs.Stacks.{pushed_is}
 use Rattle.run_notes.proofs.Building.{from_there, steps_more, closed_more}

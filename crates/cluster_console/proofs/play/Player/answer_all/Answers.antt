@@ -1,6 +1,6 @@
 use Rattle.std.proofs.Common.{◌≡◌, ◌∙◌, false, refl, sym, subst, arith}
 use Rattle.cluster_console.specs.Answering.{Answering, is_over}
-use Rattle.cluster_console.proofs.Answering.{answering_begins, answered_taken, ended_taken, answered_some}
+use Rattle.cluster_console.proofs.Answering.{answering_begins, answered_taken, answered_some}
 use Rattle.cluster_console.proofs.play.Player.answer_all.Goals as goal
 
 pub lines-init : goal.lines-init

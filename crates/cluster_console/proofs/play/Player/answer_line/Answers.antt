@@ -1,5 +1,5 @@
 use Rattle.std.specs.Prelude.{codes}
-use Rattle.cluster_console.proofs.Answering.{says_no_memory, says_told}
+use Rattle.cluster_console.proofs.Answering.{says_no_memory}
 use Rattle.cluster_console.proofs.play.Player.answer_line.Goals as goal
 
 pub returns-in-Err-clause-answered : goal.returns-in-Err-clause-answered

@@ -1,19 +1,13 @@
-use Rattle.std.proofs.Common.{◌≡◌, ℕ, ◌+◌, ◌++◌, length, refl, subst, arith, add-one}
-use Rattle.std.specs.Prelude.{codes, decimal}
-use Rattle.cluster_console.specs.Played.{MembersTell}
-use Rattle.cluster_console.proofs.Rows.{member_more}
+use Rattle.std.proofs.Common.{Result, Ok, Err, OnOk, subst}
+use Rattle.purge_rules.specs.Purges.{AreNumbered}
 use Rattle.cluster_console.proofs.play.Player.members.Goals as goal
 
-pub loop-place-preserved : goal.loop-place-preserved
-loop-place-preserved g c =
-    let roster = c.args.self.now.roster.now in
-    let so_far = c.loop-place.invariant in
-    member_more roster c.loop-place.place (c.loop-place.place + 1) c.args.text.now.items (codes "members " ++ decimal (length roster.members)) so_far.0
-    c.loop-place.text.items c.member.new.text.items (add-one c.loop-place.place) so_far.1 so_far.2 c.in_ok-member.ensures
+-- what follows from an Ok follows from what holds after it
+on_ok_then : {A E P Q : Type 0} (r : Result A E) → (P → Q) → OnOk r P → OnOk r Q
+on_ok_then (Ok x) then held = then held
+on_ok_then (Err e) then held = held
 
 pub returns : goal.returns
 returns g c =
-    let roster = c.args.self.now.roster.now in
-    let so_far = c.loop-place.invariant in
-    let last : c.loop-place.place ≡ 16 = omega (arith, c.loop-place-test.false, c.loop-place.auto.place-end) in
-    (codes "members " ++ decimal (length roster.members) ++ so_far.0, (so_far.0, subst (λ id. MembersTell roster id so_far.0) last so_far.1, refl), so_far.2)
+    let numbered : AreNumbered c.in_ok-purges.purges = subst AreNumbered c.purges-2.view_is c.purges-2.invariant in
+    on_ok_then c.tell_members.result (λ told. (told.0, (c.in_ok-purges.purges, numbered, told.1), told.2)) c.tell_members.ensures

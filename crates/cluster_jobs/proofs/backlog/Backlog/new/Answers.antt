@@ -1,4 +1,4 @@
-use Rattle.std.proofs.Common.{◌≡◌, ℕ, replicate, refl, arith}
+use Rattle.std.proofs.Common.{◌≡◌, replicate, refl, arith}
 use Rattle.cluster_jobs.proofs.Lanes.{counts_none}
 use Rattle.cluster_jobs.proofs.Orders.{in_order_none}
 use Rattle.cluster_jobs.proofs.backlog.Backlog.new.Goals as goal

@@ -1,7 +1,7 @@
-use Rattle.std.proofs.Common.{◌≡◌, ◌<◌, ◌++◌, ◌∷◌, ◌∙◌, [], List, length, map, slice_index_or, refl, sym, ap, arith}
+use Rattle.std.proofs.Common.{◌≡◌, ◌++◌, ◌∷◌, ◌∙◌, [], List, length, map, slice_index_or, refl, ap, arith}
 use Rattle.std.proofs.lemmas.List.{length-map, map-append}
 use Rattle.cluster_jobs.specs.declared.order.Step.TheVariants.{Put}
-use Rattle.cluster_jobs.specs.Lanes.{at_place, lane_of, place_of}
+use Rattle.cluster_jobs.specs.Lanes.{lane_of, place_of}
 use Rattle.cluster_jobs.specs.Order.{sight_of}
 use Rattle.cluster_jobs.proofs.Lanes.{below_six, counts_put, has_room}
 use Rattle.cluster_jobs.proofs.Orders.{in_order_more, leaves_put}
@@ -15,7 +15,8 @@ push_back_reserved-requires g c =
     let at : c.place-place.result ≡ place_of (lane_of s) = c.place-place.ensures ∙ ap place_of c.lane.ensures in
     let here = c.self.invariant.2.each (place_of (lane_of s)) c.index.result.now (below_six s) in
     let value = c.index.ensures ∙ (ap (λ k. slice_index_or counts k c.index.result.now) at ∙ here) in
-    let room = has_room counts (map sight_of jobs.items) (place_of (lane_of s)) c.self.invariant.2 (below_six s) (omega (arith, c.if-index-ge-CAPACITY.false, value)) in
+    let room = has_room counts (map sight_of jobs.items) (place_of (lane_of s)) c.self.invariant.2 (below_six s)
+    (omega (arith, c.if-index-ge-CAPACITY.false, value)) in
     omega (arith, room, length-map jobs.items sight_of, jobs.ok.0, c.self.invariant.3)
 
 pub invariant_of-self : goal.invariant_of-self

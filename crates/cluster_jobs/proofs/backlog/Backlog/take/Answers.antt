@@ -1,6 +1,5 @@
-use Rattle.std.proofs.Common.{◌≡◌, ◌∷◌, ◌∙◌, List, map, slice_index_or, refl, ap, subst, arith}
+use Rattle.std.proofs.Common.{◌≡◌, ◌∷◌, ◌∙◌, map, slice_index_or, refl, ap, subst, arith}
 use Rattle.cluster_jobs.specs.declared.order.Step.TheVariants.{Took}
-use Rattle.cluster_jobs.specs.declared.order.Sight.{Sight}
 use Rattle.cluster_jobs.specs.Lanes.{AreCounts, lane_of, place_of}
 use Rattle.cluster_jobs.specs.Order.{Leaves, sight_of}
 use Rattle.cluster_jobs.proofs.Lanes.{below_six, counts_took}

@@ -10,8 +10,10 @@ returns-then-begins g c =
     let after = c.put-put.new.self in
     let w : View = record { seen = c.seen-front.result; own = c.put-put.new.own } in
     let same = c.deref.ensures ∙ sym c.deref_mut.ensures.value in
-    let known : IsPrefix c.pass.inside.front before.seen = subst (IsPrefix c.pass.inside.front) (c.seen.ensures.all ∙ ap (λ b. b.seen) same) c.if-begins.ensures in
+    let known : IsPrefix c.pass.inside.front before.seen =
+    subst (IsPrefix c.pass.inside.front) (c.seen.ensures.all ∙ ap (λ b. b.seen) same) c.if-begins.ensures in
     let now : c.seen-front.result ≡ after.seen = search rules in
     rw (← c.pass.view_is) (
-    has_put (record { seen = c.pass.inside.front; own = c.pass.inside.own }) w c.args.job c.put-put.result before after known (rw (← c.loop.invariant.2) c.put-put.ensures) now c.seen-front.ensures.order
+    has_put (record { seen = c.pass.inside.front; own = c.pass.inside.own }) w c.args.job c.put-put.result before after known
+    (rw (← c.loop.invariant.2) c.put-put.ensures) now c.seen-front.ensures.order
     )

@@ -1,7 +1,8 @@
 -- A QUERY: the answer is neither QUERY nor HIT_OBJ, and is the rule's for the key that was read.
 use Rattle.std.proofs.Common.{option_map}
 use Rattle.values_plain.specs.declared.address.Udp.TheVariants as udp
-use Rattle.node_rules.specs.Known.{is_known}
+use Rattle.node_rules.specs.State.{setting}
+use Rattle.node_rules.specs.Datagrams.{answers_to}
 use Rattle.node_core.specs.View.{setting_of}
 use Rattle.node_core.proofs.HearingQuestions.{no_query, no_object, answers_query}
 use Rattle.node_core.proofs.node.Node.icp_query.Goals as goal
@@ -9,12 +10,14 @@ use Rattle.node_core.proofs.node.Node.icp_query.Goals as goal
 pub icp_answer-answer-requires-clause-query : goal.icp_answer-answer-requires-clause-query
 icp_answer-answer-requires-clause-query g c =
     let v = c.args.self.now in
-    no_query (is_known v.roster v.id udp.Icp c.args.from) v.state c.args.now (option_map (λ k. k.now) c.as_ref.result) _ c.query_answer-op.ensures
+    no_query (answers_to (setting v.roster v.id) v.state udp.Icp c.args.from) v.state c.args.now (option_map (λ k. k.now) c.as_ref.result) _
+    c.query_answer-op.ensures
 
 pub icp_answer-answer-requires-clause-object : goal.icp_answer-answer-requires-clause-object
 icp_answer-answer-requires-clause-object g c =
     let v = c.args.self.now in
-    no_object (is_known v.roster v.id udp.Icp c.args.from) v.state c.args.now (option_map (λ k. k.now) c.as_ref.result) _ c.query_answer-op.ensures
+    no_object (answers_to (setting v.roster v.id) v.state udp.Icp c.args.from) v.state c.args.now (option_map (λ k. k.now) c.as_ref.result) _
+    c.query_answer-op.ensures
 
 pub returns : goal.returns
 returns g c = λ key_of gives.

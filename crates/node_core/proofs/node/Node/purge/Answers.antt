@@ -10,6 +10,7 @@ use Rattle.node_rules.specs.declared.message.Outgoing.{Outgoing}
 use Rattle.node_rules.specs.declared.state.NodeState.{NodeState}
 use Rattle.node_rules.specs.State.{replies}
 use Rattle.node_rules.specs.Datagrams.{if_desired}
+use Rattle.node_rules.specs.declared.raising.Raise.TheVariants.{Floor}
 use Rattle.node_core.specs.Closing.{FailsWithCause}
 use Rattle.node_core.specs.View.{NodeText}
 use Rattle.node_core.proofs.Outcomes.{found_either, keeps_by, caused, fails_by, IsStoreFault}
@@ -37,16 +38,16 @@ pub returns-in-Err-clause-leads : goal.returns-in-Err-clause-leads
 returns-in-Err-clause-leads g c =
     elim c.match-reply-9.branch [
       | in-Some+in-Peer-2 w ↦ rw (c.step_fault_of.ensures, w.self-is)
-          (closes _ c.args.self.now.state _ c.args.key.now c.args.number c.in-Err.fault record
+          (closes _ c.args.self.now.state _ (Floor c.args.key.now c.args.number) c.in-Err.fault record
           { closed = refl; pending = c.new.ensures; copies = held_copies g c; block = held_block g c; floors = raised_then g c })
       | in-Some+in-Read-2 w ↦ rw (c.step_fault_of.ensures, w.self-is)
-          (closes _ c.args.self.now.state _ c.args.key.now c.args.number c.in-Err.fault record
+          (closes _ c.args.self.now.state _ (Floor c.args.key.now c.args.number) c.in-Err.fault record
           { closed = refl; pending = c.new.ensures; copies = held_copies g c; block = held_block g c; floors = raised_then g c })
       | in-Some+in-Round-2 w ↦ rw (c.step_fault_of.ensures, w.self-is)
-          (closes _ c.args.self.now.state _ c.args.key.now c.args.number c.in-Err.fault record
+          (closes _ c.args.self.now.state _ (Floor c.args.key.now c.args.number) c.in-Err.fault record
           { closed = refl; pending = c.new.ensures; copies = held_copies g c; block = held_block g c; floors = raised_then g c })
       | in-None-4 w ↦ rw (c.step_fault_of.ensures, w.self-is)
-          (closes _ c.args.self.now.state _ c.args.key.now c.args.number c.in-Err.fault record
+          (closes _ c.args.self.now.state _ (Floor c.args.key.now c.args.number) c.in-Err.fault record
           { closed = refl; pending = c.new.ensures; copies = held_copies g c; block = held_block g c; floors = raised_then g c })
     ]
 

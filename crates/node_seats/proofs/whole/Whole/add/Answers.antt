@@ -10,31 +10,48 @@ overflow_add-index_mut g c =
     let k = c.from-place.result in
     let within : k < length c.self.inside.counts.items = omega (arith, c.if-place-len.false, c.len.ensures) in
     let is = c.index_mut.ensures.value ∙ c.self.invariant k c.index_mut.result.now within in
-    omega (arith, is, entries_fewer k c.self.inside.front, c.if-not-add.ensures.bound, ap length c.if-not-add.ensures.added, length-append c.self.inside.front (c.args.entry.now ∷ []))
+    omega (
+      arith,
+      is,
+      entries_fewer k c.self.inside.front,
+      c.if-not-add_as.ensures.bound,
+      ap length c.if-not-add_as.ensures.added,
+      length-append c.self.inside.front (g.M.Entry.of c.args.value.now ∷ []),
+    )
 
 pub overflow_add-seat : goal.overflow_add-seat
 overflow_add-seat g c =
     let seat = c.args.seat.now in
     let calls = c.seat.invariant.0 ∙ ap (λ s. length (entries_of s.number s.seen)) c.seat.view_is in
     let whole = ap (λ (l : List NodeEntry). length l) c.self.view_is in
-    omega (arith, calls, entries_fewer seat.number seat.seen, ap length c.requires.next.log_is, length-append seat.seen c.requires.next.others, whole, c.if-not-add.ensures.bound, ap length c.if-not-add.ensures.added, length-append c.self.inside.front (c.args.entry.now ∷ []))
+    omega (
+      arith,
+      calls,
+      entries_fewer seat.number seat.seen,
+      ap length c.requires.next.log_is,
+      length-append seat.seen c.requires.next.others,
+      whole,
+      c.if-not-add_as.ensures.bound,
+      ap length c.if-not-add_as.ensures.added,
+      length-append c.self.inside.front (g.M.Entry.of c.args.value.now ∷ []),
+    )
 
 pub invariant_of-self-2 : goal.invariant_of-self-2
 invariant_of-self-2 g c =
     let k = c.from-place.result in
     let within : k < length c.self.inside.counts.items = omega (arith, c.if-place-len.false, c.len.ensures) in
     let is = c.index_mut.ensures.value ∙ c.self.invariant k c.index_mut.result.now within in
-    let own : c.args.entry.now.seat ≡ k = c.requires.own ∙ (sym (ap (λ s. s.number) c.seat.view_is) ∙ sym c.from-place.ensures) in
-    subst (λ (l : List NodeEntry). AreCounts (slice_set c.self.inside.counts.items k (c.index_mut.result.now + 1)) l) (sym c.if-not-add.ensures.added)
-    (counts_more c.self.inside.counts.items c.self.inside.front c.args.entry.now k (c.index_mut.result.now + 1) c.self.invariant own within
+    let own : (g.M.Entry.of c.args.value.now).seat ≡ k = c.requires.own ∙ (sym (ap (λ s. s.number) c.seat.view_is) ∙ sym c.from-place.ensures) in
+    subst (λ (l : List NodeEntry). AreCounts (slice_set c.self.inside.counts.items k (c.index_mut.result.now + 1)) l) (sym c.if-not-add_as.ensures.added)
+    (counts_more c.self.inside.counts.items c.self.inside.front (g.M.Entry.of c.args.value.now) k (c.index_mut.result.now + 1) c.self.invariant own within
     (ap (λ n. n + 1) is))
 
 pub invariant_of-seat : goal.invariant_of-seat
 invariant_of-seat g c =
     let seat = c.args.seat.now in
-    let e = c.args.entry.now in
+    let e = g.M.Entry.of c.args.value.now in
     let log = c.args.self.now in
-    let last : c.again.result ≡ log ++ e ∷ [] = c.again.ensures ∙ (c.if-not-add.ensures.added ∙ ap (λ (l : List NodeEntry). l ++ e ∷ []) c.self.view_is) in
+    let last : c.again.result ≡ log ++ e ∷ [] = c.again.ensures ∙ (c.if-not-add_as.ensures.added ∙ ap (λ (l : List NodeEntry). l ++ e ∷ []) c.self.view_is) in
     let calls = c.seat.invariant.0 ∙ ap (λ s. length (entries_of s.number s.seen)) c.seat.view_is in
     let number = ap (λ s. s.number) c.seat.view_is in
     let count : c.seat.inside.calls + 1 ≡ length (entries_of seat.number (log ++ e ∷ [])) =

@@ -1,12 +1,12 @@
 -- The least rank is a track's, so an index is found and its track has a note: the two early exits
 -- do not happen. The note that is taken is the next, by Taking.
-use Rattle.std.proofs.Common.{◌≡◌, ℕ, List, [], ◌∷◌, length, map, set, Option, Some, None, ◌<◌, nat_le, refl, sym, ◌∙◌, ap, subst, arith}
+use Rattle.std.proofs.Common.{◌≡◌, ℕ, List, [], ◌∷◌, length, map, set, Option, Some, None, ◌<◌, nat_le, refl, sym, ◌∙◌, ap, subst}
 use Rattle.std.specs.Prelude.{slice_get}
 use Rattle.std.specs.Global.{Vec}
 use Rattle.std.proofs.lemmas.List.{map-set, nil_from_length}
 use Rattle.std.proofs.lemmas.Option.{none-some, slice_get_read}
 use Rattle.run_rules.specs.Notes.{Note, place_in, ranks_of, least, count_of}
-use Rattle.run_rules.specs.Verdict.{OrderedNote, double_by, order_by, count_in}
+use Rattle.run_rules.specs.Verdict.{double_by, order_by, count_in}
 use Rattle.run_notes.specs.declared.note.Note.{Note as Held}
 use Rattle.run_notes.specs.Held.{note_of, track_of, tracks_in, place_at}
 use Rattle.run_notes.proofs.Stacks.{pushed}

@@ -12,5 +12,6 @@ compare_exchange-found-requires g c =
       ap (λ s. s.book) again ∙ sym (ap (λ w. w.book) h),
       pen.0 ∙ (ap (λ s. s.book) again ∙ sym (ap (λ w. w.book) h)),
       offer.0,
-      rw (ap (λ w. w.key) h, pen.1, offer.1, offer.3, ap (λ s. s.log) again) (adds_moves c.args.self.now.seen.log (g.M.Entry.of c.args.value.now) c.args.self.now.len (sym c.args.self.now.counted)),
+      rw (ap (λ w. w.key) h, pen.1, offer.1, offer.3, ap (λ s. s.log) again)
+          (adds_moves c.args.self.now.seen.log (g.M.Entry.of c.args.value.now) c.args.self.now.len (sym c.args.self.now.counted)),
     )

@@ -1,0 +1,1 @@
+-- No lemmas. What the loops of `under_way` keep: that of `send`, then that of `receive`.

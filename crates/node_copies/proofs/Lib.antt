@@ -1,0 +1,2 @@
+-- No lemmas. `replies/copy_of_send` says what its loop has copied so far. `parts/+fields` and
+-- `same_replies/+sends` say what falls where a function calls itself.

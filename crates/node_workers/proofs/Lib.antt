@@ -1,0 +1,1 @@
+-- No lemmas. `node/run_node` says of which book and which beginning its calls speak.

@@ -1,0 +1,1 @@
+-- No lemmas. Each file says of which book, and of which beginning, the calls of a test speak.

@@ -1,0 +1,1 @@
+-- No lemmas. Each file says of which book the calls of a test speak.
