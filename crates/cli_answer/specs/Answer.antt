@@ -46,7 +46,7 @@ use Rattle.values_lines.specs.Words.{split_word, is_word, decimal_below}
 abbrev pub Answering : Type 0
 Answering = NodeText (Unit {0}) FloorTable
 
--- the node at the start: member 1 of the roster of the crate, which holds nothing
+-- the node at the start: member 1 of the roster of the crate, which holds nothing [Script 2]
 pub record IsFirst (node : Answering) : Type 0 where
   pub roster : tables_in ROSTER.now ≡ Some (Some node.roster)
   pub id : node.id ≡ 1

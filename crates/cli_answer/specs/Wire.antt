@@ -32,7 +32,7 @@ abbrev pub object_shown : IcpOp → List ℕ → List ℕ
 object_shown HitObj object = codes " " ++ shown object
 object_shown op object = []
 
--- an ICP message as its opcode, its request number and its URL, and in a HIT_OBJ its object
+-- an ICP message as its opcode, its request number and its URL, and in a HIT_OBJ its object [Script 4]
 abbrev pub icp_shown : Message → List ℕ
 icp_shown m =
     icp_op_name m.op ++ codes " " ++ decimal m.number ++ codes " " ++ shown m.url ++ object_shown m.op m.object
@@ -96,6 +96,6 @@ abbrev pub WordShows : Udp → List ℕ → List ℕ → Type 0
 WordShows Icp hex text = IcpShows (decode_of hex) text
 WordShows Htcp hex text = HtcpShows (decode_of hex) text
 
--- a line of the input: one word in hex, or a bad line
+-- a line of the input: one word in hex, or a bad line [Script 3]
 abbrev pub WireAnswers : Udp → List ℕ → List ℕ → Udp → Type 0
 WireAnswers codec line text next = MatchBool (is_word line) (WordShows codec line text) (text ≡ codes "bad line") × (next ≡ codec)

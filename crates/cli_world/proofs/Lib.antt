@@ -1,1 +1,2 @@
+-- `Long`: a line of more than five words is bad.
 pub mod Long

@@ -188,7 +188,7 @@ origin_of node serial status (octet ∷ octets) = origin_by (octet_in node) (wor
 abbrev pub with_four : List ℕ → List ℕ → List ℕ → List ℕ → List ℕ → Command
 with_four keyword node serial status body = if bytes_eq keyword (codes "origin") then origin_of node serial status body else BadLine
 
--- what a line of these words asks for
+-- what a line of these words asks for [Script 6]
 abbrev pub command_of : List (List ℕ) → Command
 command_of (keyword ∷ []) = bare keyword
 command_of (keyword ∷ word ∷ []) = with_one keyword word

@@ -29,7 +29,7 @@ abbrev pub EventAnswers : WorldView → WorldEvent → List ℕ → WorldView �
 EventAnswers old event text new = (result : Result Outcome WorldFault) × IsApplied old event result new
     × IsTold result text
 
--- what is told of a line, after its number
+-- what is told of a line, after its number [Script 9]
 abbrev pub HeardAnswers : WorldView → Heard → List ℕ → WorldView → Type 0
 HeardAnswers old (heard.Event event) text new = EventAnswers old event text new
 HeardAnswers old (heard.BadUrl f) text new = (text ≡ codes " " ++ key_fault_name f) × (new ≡ old)
@@ -41,7 +41,7 @@ LineAnswers old line text new =
     (h : Heard) × (told : List ℕ) × IsHeardIn line h × HeardAnswers old.world h told new.world
     × (new.lines ≡ min (old.lines + 1) (2 ^ 64 - 1)) × (text ≡ decimal new.lines ++ told)
 
--- a new world of the roster, before the first line
+-- a new world of the roster, before the first line [Script 5]
 pub record IsStart (roster : Tables) (player : Player) : Type 0 where
   pub world : player.world ≡ record { roster = roster; place = 1; spoilt = false; world = new_world roster }
   pub lines : player.lines ≡ 0

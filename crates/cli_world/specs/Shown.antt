@@ -76,6 +76,6 @@ abbrev pub or_nothing : List ℕ → List ℕ
 or_nothing [] = codes " -"
 or_nothing (octet ∷ octets) = octet ∷ octets
 
--- the outcome of an event, or `-` where nothing is told of it
+-- the outcome of an event, or `-` where nothing is told of it [Script 7]
 abbrev pub outcome_shown : Outcome → List ℕ
 outcome_shown o = or_nothing (parts_shown o)

@@ -69,7 +69,7 @@ lines_to_quit input = lines_before (Some quit) (lines_of input)
 
 -- how a run over the lines of an input ended, if its octets are known: nothing was done, for want of memory; there was
 -- no line; each line before the first `quit` was answered, and each answer written; or the output failed, at any
--- answer; or the input failed, after so many lines
+-- answer; or the input failed, after so many lines [Cluster 1]
 abbrev pub HasAnswered : Tables → Option Gathered → Option (List ℕ) → Option (List ℕ) → Option (List ℕ) → Ended →
     Option Gathered → Type 0
 HasAnswered roster before None old new e after = ⊤

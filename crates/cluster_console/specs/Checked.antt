@@ -21,7 +21,7 @@ GoesOn (Some old) (Some new) = (records : List Record) × (entries : List Master
     × (new.records ≡ old.records ++ records) × (new.entries ≡ old.entries ++ entries)
 
 -- a verdict is the one on all that was gathered, and the run is forgotten where nothing is gathered any more; why the
--- records of a member are not given no contract can say, since they are under a lock
+-- records of a member are not given no contract can say, since they are under a lock [Cluster 4]
 abbrev pub IsChecked : Tables → Option Gathered → Checked → Type 0
 IsChecked roster gathered (checked.Judged verdict) = MatchOption gathered ⊥
     (λ g. IsFirstOn roster g.records g.entries verdict)

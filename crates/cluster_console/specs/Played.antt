@@ -110,7 +110,7 @@ CommandTells roster gathered BadLine text = text ≡ codes "bad line"
 abbrev pub LineTells : Tables → Option Gathered → List ℕ → List ℕ → Type 0
 LineTells roster gathered line text = CommandTells roster gathered (command_of (words_of line)) text
 
--- what is said of a line: a line that is too long, or for which there is no memory, is at fault alone
+-- what is said of a line: a line that is too long, or for which there is no memory, is at fault alone [Cluster 3]
 abbrev pub LineSays : Tables → Option Gathered → List ℕ → List ℕ → Type 0
 LineSays roster gathered line text = MatchBool (is_long line) (text ≡ codes "LineTooLong")
     ((text ≡ codes "NoMemory") ⊎ LineTells roster gathered line text)

@@ -121,7 +121,7 @@ pending_head purges = codes "purges " ++ decimal (pending_count purges)
 abbrev pub admission_lines : Nodes → PurgeList → List ℕ
 admission_lines nodes purges = all_shown (admission_line nodes purges) purges.admissions
 
--- how many purges and admissions are pending, then the admissions, and then the purges
+-- how many purges and admissions are pending, then the admissions, and then the purges [Cluster 3]
 abbrev pub pending_shown : Nodes → PurgeList → List ℕ
 pending_shown nodes purges =
     (pending_head purges ++ admission_lines nodes purges) ++ all_shown (pending_line nodes purges) purges.pending

@@ -1,7 +1,7 @@
 //! The lines of `cache cluster`, which purge, admit members and query a running hierarchy.
 //!
-//! [`answer_lines`] answers the lines of an input before its first line `quit`, each by one line.
-//! What judges the run is passed in, as a [`Checker`].
+//! [`answer_lines`] answers the lines of an input before its first line `quit`. What judges the run
+//! is passed in, as a [`Checker`].
 //!
 //! Order of reading: `specs/Command.antt` and `src/line.rt` (what a line asks for);
 //! `specs/Shown.antt` and `src/show.rt` (how an answer reads); `specs/Checked.antt` and

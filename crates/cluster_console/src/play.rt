@@ -76,7 +76,7 @@ struct Player<'a, S: PurgeStore, C, R> {
 
 /// Answers the lines of an input before its first line `quit`, by the running master and members of
 /// a roster. Where there is no such line, all lines are answered. Each is answered before the next
-/// one is taken. There may be any number of lines.
+/// one is taken, by one line or by several. There may be any number of lines.
 ///
 /// The lines: `purge URL` issues a purge and prints `purge P`, the fault of a URL that has no key,
 /// or that of the master; `admit N` admits member N, which joins, and prints `admitted P` or the

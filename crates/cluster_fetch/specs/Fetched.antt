@@ -24,7 +24,7 @@ event_of_answer (Member id) serial key answer now = PeerAnswer serial id key ans
 event_of_answer (Foreign id) serial key answer now = ForeignAnswer serial id key answer tt now
 event_of_answer Origin serial key answer now = OriginAnswer serial key answer now
 
--- the event of a fetch: a response that the node gets, or a failure
+-- the event of a fetch: a response that the node gets, or a failure [HTTP 18]
 abbrev pub event_of_fetch : ResponseSource → ℕ → List ℕ → Option AnswerText → ℕ → Event (Unit {0})
 event_of_fetch source serial key None now = FetchFailed serial now
 event_of_fetch source serial key (Some a) now = if is_told source a then event_of_answer source serial key a now

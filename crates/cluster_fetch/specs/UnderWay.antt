@@ -37,6 +37,11 @@ abbrev pub is_own_number : ℤ → Bool
 is_own_number (pos n) = n == 12 || n == 23 || n == 24 || n == 99 || n == 105
 is_own_number (negsuc n) = false
 
+-- a call failed since the process (24), or the whole system (23), has no more descriptors
+abbrev pub is_want_of_descriptors : Option ℤ → Bool
+is_want_of_descriptors (Some (pos n)) = n == 23 || n == 24
+is_want_of_descriptors _ = false
+
 -- the error of a call that found no memory in the program itself
 abbrev pub is_own_kind : ErrorKind → Bool
 is_own_kind OutOfMemory = true

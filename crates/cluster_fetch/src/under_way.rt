@@ -4,6 +4,7 @@ ghost use Rattle.std.specs.IoError.{error_kind, raw_os_error};
 ghost use Rattle.http_writing.specs.Name.{is_name as names_cache};
 ghost use Rattle.cluster_fetch.specs.UnderWay.{FetchingView, Ends, IsSameFetch, asked_by, ended_as};
 ghost use Rattle.cluster_fetch.specs.UnderWay.{is_own_want as lacks_own};
+ghost use Rattle.cluster_fetch.specs.UnderWay.{is_want_of_descriptors as lacks_descriptors};
 
 use crate::ended::Fetched;
 use crate::events::ResponseSource;
@@ -42,6 +43,15 @@ pub struct Fetch {
     pub at: Address,
     /// The request.
     pub ask: Ask,
+}
+
+/// A fetch that could not begin.
+#[derive(Drop)]
+pub struct Unbegun {
+    /// The fetch, which has failed.
+    pub fetched: Fetched,
+    /// Whether there was no descriptor for its connection.
+    pub lacks_descriptor: bool,
 }
 
 /// A fetch that is under way: its connection, what is sent and what has come.
@@ -121,6 +131,17 @@ fn is_own_want(error: &Error) -> bool
     }
 }
 
+/// Whether a call failed since the process, or the whole system, has no more descriptors (`EMFILE`,
+/// `ENFILE`).
+pub fn is_want_of_descriptors(error: &Error) -> bool
+    ensures { result ≡ lacks_descriptors (raw_os_error error.now) }
+{
+    match error.raw_os_error() {
+        Some(number) => matches!(number, 23 | 24),
+        None => false,
+    }
+}
+
 /// Writes the request, and begins to connect.
 fn connected<R: Net>(
     rt: &R,
@@ -166,11 +187,11 @@ impl Fetching {
         fetch: Fetch,
         name: &[u8],
         until: Instant,
-    ) -> Result<Fetching, Fetched>
+    ) -> Result<Fetching, Unbegun>
         requires { IsTrue (names_cache name.now) }
         ensures begun { IfOk result (λ fetching. fetching ≡ asked_by fetch) }
         ensures failed { IfErr result (λ failed. (unreached : Bool)
-            × (failed ≡ ended_as (asked_by fetch) None unreached)) }
+            × (failed.fetched ≡ ended_as (asked_by fetch) None unreached)) }
     {
         match connected(rt, alloc, &fetch, name) {
             Ok((stream, request)) => Ok(Fetching {
@@ -187,7 +208,10 @@ impl Fetching {
                 tried: 0,
                 until,
             }),
-            Err(error) => Err(fetch.into_ended(is_refusal(&error))),
+            Err(error) => Err(Unbegun {
+                lacks_descriptor: is_want_of_descriptors(&error),
+                fetched: fetch.into_ended(is_refusal(&error)),
+            }),
         }
     }
 

@@ -72,7 +72,7 @@ filed locked = record {
 abbrev pub is_full_page : List MasterEntry → Bool
 is_full_page entries = nat_le 4096 (weight_of_all entries) || nat_le 4096 (length entries)
 
--- a page that is full is filed before a call
+-- a page that is full is filed before a call [Book 5]
 abbrev pub ready : {S : Type 0} → LockedBookView S → LockedBookView S
 ready locked = if is_full_page locked.book.entries then filed locked else locked
 

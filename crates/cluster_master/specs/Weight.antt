@@ -17,7 +17,7 @@ abbrev pub answer_octets : Result MasterAnswer MasterFault → ℕ
 answer_octets (Ok (answer.Due pairs)) = 8 * min (length pairs) 16384
 answer_octets _ = 0
 
--- an entry weighs 1, and 1 more for each 1,024 octets of its URL or its list
+-- an entry weighs 1, and 1 more for each 1,024 octets of its URL or its list [Cluster 6]
 abbrev pub weight_of : MasterEntry → ℕ
 weight_of entry = 1 + (call_octets entry.call + answer_octets entry.answer) / 1024
 

@@ -1,5 +1,5 @@
 //! When the CLRs of pending purges are sent again. That of an admission is sent as a purge's is.
-ghost use Rattle.std.specs.Prelude.{◌≡◌, ◌≤◌, ◌*◌, length, min, IfErr};
+ghost use Rattle.std.specs.Prelude.{◌≡◌, ◌≤◌, ◌*◌, length, min, true, IfErr};
 
 use std::alloc::Global;
 
@@ -13,7 +13,8 @@ const LONGEST_WAIT: u64 = 1_000;
 /// how many datagrams are sent again in all.
 const PACE: u64 = 10;
 
-/// How many milliseconds pass between two sendings of purges that no member misses.
+/// How many milliseconds after purges that no member misses were sent, and some of them done, they
+/// are sent again.
 const SETTLED_WAIT: u64 = 100;
 
 /// How many milliseconds after its first CLRs a pending purge is young: its members are taken to be
@@ -85,6 +86,10 @@ pub(crate) struct Schedule {
     look: u64,
     /// When purges that no member misses are sent again; never where there are none.
     settled: u64,
+    /// How many milliseconds pass until the time after that.
+    settled_wait: u64,
+    /// How many such purges there were when they were last sent.
+    settled_count: usize,
     /// When something is sent again, at the earliest.
     paced: u64,
     /// Up to this number a pending purge may lack an entry. One with a greater number that lacks
@@ -99,6 +104,8 @@ impl Schedule {
             row: Vec::new(alloc),
             look: 0,
             settled: u64::MAX,
+            settled_wait: SETTLED_WAIT,
+            settled_count: 0,
             paced: 0,
             old: u32::MAX,
         }
@@ -110,6 +117,8 @@ impl Schedule {
         self.row.clear();
         self.look = 0;
         self.settled = 0;
+        self.settled_wait = SETTLED_WAIT;
+        self.settled_count = 0;
         self.paced = 0;
         self.old = last;
     }
@@ -146,13 +155,28 @@ impl Schedule {
         self.row.retain(|again| last < again.number || is_pending(pending, again.number));
     }
 
-    /// Whether purges that no member misses are sent now. If so, the next time is set.
-    pub(crate) fn takes_settled(&mut self, now: u64) -> bool {
+    /// Whether purges that no member misses are sent now. If so, the next time is set; from one to
+    /// the next twice the time passes, up to a second.
+    pub(crate) fn takes_settled(&mut self, now: u64) -> bool
+        ensures { result ≡ true →
+            self.exit.now.settled_wait ≡ min (2 * self.entry.now.settled_wait) 1000 }
+    {
         if now < self.settled {
             return false;
         }
-        self.settled = now.saturating_add(SETTLED_WAIT);
+        self.settled = now.saturating_add(self.settled_wait);
+        self.settled_wait = longer(self.settled_wait);
         true
+    }
+
+    /// Notes how many purges that no member misses there are as they are sent. Where an
+    /// acknowledgement has made some of them done, the next are sent 100 milliseconds later.
+    pub(crate) fn note_settled(&mut self, count: usize, now: u64) {
+        if count < self.settled_count {
+            self.settled = now.saturating_add(SETTLED_WAIT);
+            self.settled_wait = longer(SETTLED_WAIT);
+        }
+        self.settled_count = count;
     }
 
     /// There are no purges that no member misses, or none of them can be made done.

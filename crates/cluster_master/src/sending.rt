@@ -245,16 +245,19 @@ impl MasterSender {
 
     /// Sends the CLRs of 64 pending purges that no member misses to each member that they need. A
     /// member that had not acknowledged them was taken out of the roster, so nothing is due of
-    /// them; the next acknowledgement makes them done.
+    /// them; the next acknowledgement makes them done. Where none comes, they are sent more and
+    /// more seldom, up to once a second.
     fn send_settled<S: PurgeStore, R: Wait>(
         &self,
         rt: &R,
         roster: &Roster,
         master: &SharedMaster<S>,
+        now: u64,
     ) {
         let Ok(numbers) = master.settled(rt) else {
             return;
         };
+        self.line.schedule.lock(rt).note_settled(numbers.len(), now);
         if numbers.is_empty() {
             self.line.schedule.lock(rt).end_settled();
         }
@@ -288,7 +291,7 @@ impl MasterSender {
                 self.line.schedule.lock(rt).keep(last, pairs.as_slice());
                 self.send_pairs(rt, roster, master, pairs.as_slice(), now);
                 if takes_settled {
-                    self.send_settled(rt, roster, master);
+                    self.send_settled(rt, roster, master, now);
                 }
             }
             // (a closed master counts no acknowledgement)

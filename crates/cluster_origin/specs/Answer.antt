@@ -12,7 +12,7 @@ lifetime = record { name = codes "cache-control"; value = codes "max-age=60" }
 abbrev pub body_of : List ℕ → ℕ → List ℕ
 body_of key count = key_path key ++ (codes " " ++ decimal count)
 
--- the response to a request for this key, which is the `count`th that is answered
+-- the response to a request for this key, which is the `count`th that is answered [Origin 2]
 abbrev pub answer_for : List ℕ → ℕ → AnswerText
 answer_for key count = record {
   status = 200;

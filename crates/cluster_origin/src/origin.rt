@@ -3,8 +3,11 @@ ghost use Rattle.std.specs.Prelude.{IfErr};
 ghost use Rattle.cluster_origin.specs.Names.{IsAtPort};
 
 use crate::fault::OriginFault;
+use crate::front::front_of;
+use crate::refusing::refuse;
 use crate::serving::serve_next;
 use cluster_streams::{PATIENCE, StreamPoll, StreamPolls, Timed};
+use http_messages::FetchFault;
 use std::alloc::Global;
 use std::io::{self, ErrorKind, Read, Write};
 use std::net::{Net, TcpListener, TcpStream};
@@ -108,10 +111,27 @@ fn serve_reader<R: Read, C: Clock>(
 ) -> io::Result<bool> {
     match Timed::new(clock, writing, &mut outgoing, Duration::from_secs(PATIENCE)) {
         Ok(mut writer) => {
-            let served = serve_next(alloc, reader, &mut writer, number);
+            let served = serve_request(alloc, reader, &mut writer, number);
             let sent = writer.flush();
             Ok(served.is_ok() && sent.is_ok())
         }
         Err(error) => Err(error),
+    }
+}
+
+/// Reads a request and writes its response, as `serve_next` does, but a request of HTTP/1.2 to
+/// HTTP/1.9 is read as one of HTTP/1.1. Without memory for its head it is refused with a 503.
+fn serve_request<R: Read, W: Write>(
+    alloc: Global,
+    reader: &mut R,
+    writer: &mut W,
+    number: u32,
+) -> Result<(), FetchFault> {
+    match front_of(alloc, reader) {
+        Ok(front) => serve_next(alloc, &mut front.as_slice().chain(reader), writer, number),
+        Err(_) => {
+            refuse(writer, FetchFault::NoMemory);
+            Err(FetchFault::NoMemory)
+        }
     }
 }

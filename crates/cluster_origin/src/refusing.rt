@@ -8,14 +8,16 @@ use crate::serving::OWN_NAME;
 use http_messages::FetchFault;
 use http_writing::write_status;
 use std::io::Write;
+use url_key::KeyFault;
 
-/// The status for a request that was not read (RFC 9110, section 15; 431: RFC 6585, section 5), if
-/// the client is told anything.
+/// The status for a request that was not read (RFC 9110, section 15; 414: RFC 9112, section 3; 431:
+/// RFC 6585, section 5), if the client is told anything.
 fn refusal_of(fault: FetchFault) -> Option<u16>
     ensures { result ≡ status_refusing fault }
 {
     match fault {
         FetchFault::Io | FetchFault::EndOfInput | FetchFault::TooManyTurns => None,
+        FetchFault::BadTarget(KeyFault::TooLong) => Some(414),
         FetchFault::BadHead | FetchFault::BadTarget(_) | FetchFault::BadBody => Some(400),
         FetchFault::HeadTooLong => Some(431),
         FetchFault::MethodNotServed | FetchFault::Credentials => Some(501),

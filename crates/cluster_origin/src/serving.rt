@@ -16,10 +16,11 @@ pub(crate) const OWN_NAME: &[u8] = b"origin";
 /// whole text of the response is written. The writer is not flushed.
 ///
 /// Faults, each of which is answered with a status alone where it comes before the response: those
-/// of `read_ask` (400 for `BadHead`, `BadTarget` and `BadBody`, 413 for `BodyTooLong`, 431 for
-/// `HeadTooLong`, 501 for `MethodNotServed` and `Credentials`, 503 for `NoMemory`; nothing is
-/// written for `Io`, `EndOfInput` and `TooManyTurns`); `NoMemory` where there is no memory for the
-/// response (503); and `Io` where the writer failed in the response, a front of which is written.
+/// of `read_ask` (414 for a target that is too long, 400 for `BadHead`, any other `BadTarget` and
+/// `BadBody`, 413 for `BodyTooLong`, 431 for `HeadTooLong`, 501 for `MethodNotServed` and
+/// `Credentials`, 503 for `NoMemory`; nothing is written for `Io`, `EndOfInput` and
+/// `TooManyTurns`); `NoMemory` where there is no memory for the response (503); and `Io` where the
+/// writer failed in the response, a front of which is written.
 pub fn serve_next<R: Read, W: Write>(
     alloc: Global,
     reader: &mut R,

@@ -1,6 +1,6 @@
 -- A member that is found to be ahead of a number is one of those that are. Where the members are judged well, none is, and
 -- the files have what was acknowledged.
-use Rattle.std.proofs.Common.{◌≡◌, ℕ, ◌<◌, Bool, true, false, cond, ◌||◌, Some, None, List, [], ◌∷◌, map, find, Result, Ok, Err, OnOk, refl, subst}
+use Rattle.std.proofs.Common.{◌≡◌, ℕ, ◌<◌, Bool, true, false, cond, ◌||◌, Option, Some, None, option_map, List, [], ◌∷◌, map, find, Result, Ok, Err, OnOk, refl, subst}
 use Rattle.std.proofs.Common.{ap, ◌∙◌, arith}
 use Rattle.std.proofs.lemmas.Bool.Decides.{nat_tests}
 use Rattle.std.specs.Prelude.{nat_lt}
@@ -49,6 +49,9 @@ stored_well nodes purges greatest (Ok done) stored = stored
 stored_well nodes purges greatest (Err fault) stored = tt
 
 -- where joining members are judged well, no file has a number too early
-pub in_time : (early : Bool) (told : Result (Unit {0}) ClusterFault) → IsInTime early told → OnOk told (early ≡ false)
-in_time early (Ok done) judged = judged
-in_time early (Err fault) judged = tt
+pub in_time : {X : Type 0} (id : X → ℕ) (early : Option X) (told : Result (Unit {0}) ClusterFault) → IsInTime (option_map id early) told
+    → OnOk told (early ≡ None)
+in_time id None (Ok done) judged = refl
+in_time id None (Err fault) judged = tt
+in_time id (Some x) (Ok done) judged = absurd cc
+in_time id (Some x) (Err fault) judged = tt

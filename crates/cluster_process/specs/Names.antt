@@ -8,9 +8,9 @@ use Rattle.node_workers.specs.Names as node
 use Rattle.cluster_process.specs.declared.fault.ClusterFault.{ClusterFault}
 use Rattle.cluster_process.specs.declared.fault.ClusterFault.TheVariants as cluster
 
--- the name of the fault inside, where there is one; Io for a file or a socket that is not opened
+-- the name of the fault inside, where there is one; Io for a file or a socket that is not opened [Cluster 7]
 abbrev pub cluster_fault_name : ClusterFault → List ℕ
-cluster_fault_name (cluster.OtherRoster dir) = codes "OtherRoster"
+cluster_fault_name (cluster.OtherRoster dir id what) = codes "OtherRoster"
 cluster_fault_name (cluster.File path) = codes "Io"
 cluster_fault_name (cluster.Ports id http icp htcp) = codes "Io"
 cluster_fault_name (cluster.Floors path fault) = floor_fault_name fault

@@ -13,7 +13,7 @@ abbrev pub NamesAhead : ℕ → ClusterFault → Type 0
 NamesAhead last (cluster.MasterBehind dir named id number) = (named ≡ last) × (last < number)
 NamesAhead last _ = ⊥
 
--- `MasterBehind` comes exactly where some member has stored a number that the master has not given
+-- `MasterBehind` comes exactly where some member has stored a number that the master has not given [Cluster 7]
 abbrev pub IsJudged : ℕ → List ℕ → Result (Unit {0}) ClusterFault → Type 0
 IsJudged last greatest (Ok done) = has_ahead last greatest ≡ false
 IsJudged last greatest (Err fault) = (has_ahead last greatest ≡ true) × NamesAhead last fault

@@ -1,11 +1,12 @@
 -- Whether the files of the members have the numbers that the members have acknowledged, as far as the greatest number of
 -- a file tells, and no others.
-use Rattle.std.specs.Prelude.{◌≡◌, ℕ, ◌<◌, ◌≤◌, Bool, true, false, not, ◌&&◌, nat_lt, Result, Ok, Err}
+use Rattle.std.specs.Prelude.{◌≡◌, ℕ, ◌<◌, ◌≤◌, Bool, true, false, not, ◌&&◌, nat_lt, Option, Some, None, Result, Ok, Err}
 use Rattle.purge_rules.specs.declared.nodes.Nodes.{Nodes}
 use Rattle.purge_rules.specs.Members.{is_among}
 use Rattle.purge_rules.specs.Needed.{needed}
 use Rattle.purge_rules.specs.Purges.{PurgeList, is_admitted}
 use Rattle.purge_rules.specs.Calls.{missing}
+use Rattle.cluster_process.specs.declared.fault.OtherFile.TheVariants.{Early}
 use Rattle.cluster_process.specs.declared.fault.ClusterFault.{ClusterFault}
 use Rattle.cluster_process.specs.declared.fault.ClusterFault.TheVariants as cluster
 
@@ -37,7 +38,7 @@ abbrev pub NamesBehind : Nodes → PurgeList → (ℕ → ℕ) → ClusterFault 
 NamesBehind nodes purges greatest (cluster.MemberBehind dir id number) = IsBehind nodes purges greatest (id, number)
 NamesBehind nodes purges greatest _ = ⊥
 
--- `MemberBehind` comes exactly where a member's file lacks a number that the member has acknowledged
+-- `MemberBehind` comes exactly where a member's file lacks a number that the member has acknowledged [Cluster 7]
 abbrev pub IsStored : Nodes → PurgeList → (ℕ → ℕ) → Result (Unit {0}) ClusterFault → Type 0
 IsStored nodes purges greatest (Ok done) = AreStored nodes purges greatest
 IsStored nodes purges greatest (Err fault) = NamesBehind nodes purges greatest fault
@@ -47,12 +48,12 @@ IsStored nodes purges greatest (Err fault) = NamesBehind nodes purges greatest f
 abbrev pub is_early : Nodes → PurgeList → ℕ → ℕ → Bool
 is_early nodes purges id greatest = is_among id nodes.joining && not (is_admitted purges id) && nat_lt 0 greatest
 
--- the fault is that of other members
-abbrev pub IsOther : ClusterFault → Type 0
-IsOther (cluster.OtherRoster dir) = Unit {0}
-IsOther _ = ⊥
+-- the fault names this member, and says that its file has a number too early
+abbrev pub NamesEarly : ℕ → ClusterFault → Type 0
+NamesEarly id (cluster.OtherRoster dir named what) = (named ≡ id) × (what ≡ Early)
+NamesEarly id _ = ⊥
 
--- `OtherRoster` comes exactly where a file has a number too early
-abbrev pub IsInTime : Bool → Result (Unit {0}) ClusterFault → Type 0
-IsInTime early (Ok done) = early ≡ false
-IsInTime early (Err fault) = (early ≡ true) × IsOther fault
+-- `OtherRoster` comes exactly where the file of some member has a number too early, and names the first one
+abbrev pub IsInTime : Option ℕ → Result (Unit {0}) ClusterFault → Type 0
+IsInTime early (Ok done) = early ≡ None
+IsInTime early (Err fault) = (id : ℕ) × (early ≡ Some id) × NamesEarly id fault

@@ -10,6 +10,20 @@ use purge_rules::PurgeFault;
 use std::alloc::AllocError;
 use thiserror::Error;
 
+/// What is wrong with the file of a member, where a folder is that of other members.
+#[derive(Clone, Copy, Debug, PartialEq, Eq, Error)]
+pub enum OtherFile {
+    /// It is there, and is that of no member of the roster.
+    #[error("is there, and the roster has no such member")]
+    Surplus,
+    /// It is missing beside a master's file, and its member is a founding one.
+    #[error("is missing, and its member does not join")]
+    Missing,
+    /// It has a number, and its member joins and was not admitted.
+    #[error("has numbers, and its member joins and was not admitted")]
+    Early,
+}
+
 /// Why a cluster does not start, or ends before its input. No thread of it runs then, and no socket
 /// of it is open.
 #[derive(Debug, Drop, Error)]
@@ -17,10 +31,14 @@ pub enum ClusterFault {
     /// A file in the folder is that of no member of the roster; or the folder has a master's file,
     /// and lacks that of a founding member; or a joining member's file has a number, and the member
     /// was not admitted.
-    #[error("the files in {dir} are those of other members than the roster's")]
+    #[error("{dir}/node-{id}.db {what}: the files are those of other members than the roster's")]
     OtherRoster {
         /// The folder.
         dir: String,
+        /// The id of the first member whose file is wrong.
+        id: u8,
+        /// What is wrong with it.
+        what: OtherFile,
     },
     /// The file of a member or of the master could not be opened, or it is lost: only its log is
     /// there.
@@ -91,9 +109,10 @@ pub enum ClusterFault {
         /// The greatest number that the member has stored.
         number: u32,
     },
-    /// The file of a member lacks a number that the member has acknowledged: it is missing, empty
-    /// or too old, or a part of it is lost. The member would have forgotten purges.
-    #[error("{dir}/node-{id}.db is missing or too old: it lacks number {number}, which node {id} has acknowledged; put back the newest one, or take node {id} out of the roster and its files out of the folder")]
+    /// The file of a member lacks a number that the member has acknowledged, by the master's file:
+    /// it is missing, empty or too old, or a part of it is lost; or the roster said until now that
+    /// the member joins. The member would have forgotten purges.
+    #[error("{dir}/node-{id}.db is missing or too old: it lacks number {number}, which by master.db node {id} has acknowledged; put back the newest one with its -wal, and `joins` if it was there, or take node {id} out of the roster and its files out of the folder")]
     MemberBehind {
         /// The folder.
         dir: String,

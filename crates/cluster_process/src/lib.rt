@@ -36,6 +36,6 @@ mod stores;
 mod watch;
 
 pub use cluster::{is_worker_count, run_cluster};
-pub use fault::ClusterFault;
+pub use fault::{ClusterFault, OtherFile};
 pub use kept::Kept;
 pub use stores::{Stores, open_stores};

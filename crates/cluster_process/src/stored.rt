@@ -1,7 +1,6 @@
 //! Whether the files of the members have the numbers that the members have acknowledged, and no
 //! others.
 ghost use Rattle.std.specs.Prelude.{◌≡◌, ◌==◌, ◌≤◌, ℕ, false, find, option_map, unwrap_or};
-ghost use Rattle.std.specs.List.{list_any};
 ghost use Rattle.std.specs.Prelude.{MatchOption};
 ghost use Rattle.purge_rules.specs.Members.{is_among};
 ghost use Rattle.purge_rules.specs.Needed.{needed, nodes_of};
@@ -10,7 +9,7 @@ ghost use Rattle.cluster_process.specs.Stored.{has_acknowledged as has_acknowled
 ghost use Rattle.cluster_process.specs.Stored.{Lacks, AreStored, IsBehind, IsStored};
 ghost use Rattle.cluster_process.specs.Stored.{is_early, IsInTime};
 
-use crate::fault::ClusterFault;
+use crate::fault::{ClusterFault, OtherFile};
 use crate::node_floors::NodeFloors;
 use floor_rules::FloorStore;
 use purge_rules::{Admission, Nodes, Purges};
@@ -96,14 +95,19 @@ fn first_behind<F: FloorStore>(
     None
 }
 
-/// Whether a member that joins has a number in its file, and was not admitted: the master has sent
+/// The first member that joins, has a number in its file, and was not admitted: the master has sent
 /// it nothing yet, so that the file is of another cluster, or the member was a founding one.
-fn has_early<F: FloorStore>(given: &Purges, nodes: &Nodes, floors: &[NodeFloors<F>]) -> bool
-    ensures { result ≡ list_any (λ n. is_early nodes.now given.now n.id n.seen) floors.now }
+fn first_early<'a, F: FloorStore>(
+    given: &Purges,
+    nodes: &Nodes,
+    floors: &'a [NodeFloors<F>],
+) -> Option<&'a NodeFloors<F>>
+    ensures { option_map (λ n. n.now) result
+        ≡ find (λ n. is_early nodes.now given.now n.id n.seen) floors.now }
 {
-    floors.iter().any(|node| nodes.joining.has(node.id)
-        && !given.is_admitted(node.id)
-        && 0 < node.seen)
+    floors.iter().find(|node| {
+        nodes.joining.has(node.id) && !given.is_admitted(node.id) && 0 < node.seen
+    })
 }
 
 /// Refuses a folder where the file of a joining member has a number before the member is admitted:
@@ -114,13 +118,17 @@ pub(crate) fn judge_joining<F: FloorStore>(
     given: &Purges,
     nodes: &[NodeFloors<F>],
 ) -> Result<(), ClusterFault>
-    ensures { IsInTime (list_any (λ n. is_early (nodes_of roster.now) given.now n.id n.seen)
-        nodes.now) result }
+    ensures { IsInTime (option_map (λ n. n.id) (find
+        (λ n. is_early (nodes_of roster.now) given.now n.id n.seen) nodes.now)) result }
 {
-    if has_early(given, &Nodes::of(roster), nodes) {
-        return Err(ClusterFault::OtherRoster { dir });
+    match first_early(given, &Nodes::of(roster), nodes) {
+        Some(node) => Err(ClusterFault::OtherRoster {
+            dir,
+            id: node.id,
+            what: OtherFile::Early,
+        }),
+        None => Ok(()),
     }
-    Ok(())
 }
 
 /// Refuses a folder where the file of a member lacks a number that the member has acknowledged: its

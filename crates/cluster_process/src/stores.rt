@@ -1,13 +1,13 @@
 //! The files of a cluster, in one folder: `node-N.db` for each member N, and `master.db`.
 ghost use Rattle.std.specs.Prelude.{◌≡◌, ◌==◌, ◌≤◌, ℕ, false, find, insert, length, map};
-ghost use Rattle.std.specs.Prelude.{nat_lt, option_map, unwrap_or, IfOk, OnErr, OnOk};
+ghost use Rattle.std.specs.Prelude.{nat_lt, option_map, unwrap_or, IfOk, None, OnErr, OnOk};
 ghost use Rattle.std.specs.List.{list_any};
 ghost use Rattle.purge_rules.specs.Needed.{nodes_of};
 ghost use Rattle.cluster_process.specs.Folder.{file_fits};
 ghost use Rattle.cluster_process.specs.Numbers.{has_ahead, IsJudged};
 ghost use Rattle.cluster_process.specs.Stored.{AreStored, is_early};
 
-use crate::fault::ClusterFault;
+use crate::fault::{ClusterFault, OtherFile};
 use crate::files::{MasterStore, NodeStore};
 use crate::node_floors::NodeFloors;
 use crate::stored::{judge_files, judge_joining};
@@ -65,10 +65,9 @@ pub fn open_stores(
     roster: &Roster,
     dir: &str,
 ) -> Result<Stores, ClusterFault> {
-    if !is_of_roster(files, alloc, roster, dir)? {
-        return Err(ClusterFault::OtherRoster {
-            dir: String::from_str(alloc, dir)?,
-        });
+    if let Some((id, what)) = other_file(files, alloc, roster, dir)? {
+        let dir = String::from_str(alloc, dir)?;
+        return Err(ClusterFault::OtherRoster { dir, id, what });
     }
     let mut nodes = Vec::with_capacity(alloc, roster.members().len())?;
     open_nodes(files, alloc, roster, dir, Lacking::Left, &mut nodes)?;
@@ -125,8 +124,8 @@ fn complete(
         ≡ false) }
     ensures files { OnOk result (AreStored (nodes_of roster.now) given.now
         (λ id. unwrap_or (option_map (λ n. n.seen) (find (λ n. n.id == id) nodes.old.items)) 0)) }
-    ensures early { OnOk result (list_any
-        (λ n. is_early (nodes_of roster.now) given.now n.id n.seen) nodes.old.items ≡ false) }
+    ensures early { OnOk result (find
+        (λ n. is_early (nodes_of roster.now) given.now n.id n.seen) nodes.old.items ≡ None) }
 {
     let last = given.last();
     let named = String::from_str(alloc, dir)?;
@@ -198,23 +197,29 @@ fn may_be(has_master: bool, is_member: bool, is_founding: bool, has_file: bool) 
     }
 }
 
-/// Whether the folder may be one of this roster, by the names of its files. They are not opened.
-fn is_of_roster(
+/// The first member, by id, whose file is there and may not be, or is missing and may not be. No file
+/// is opened. None is returned where the folder may be one of this roster.
+fn other_file(
     files: &HostRuntime,
     alloc: Global,
     roster: &Roster,
     dir: &str,
-) -> Result<bool, ClusterFault> {
+) -> Result<Option<(u8, OtherFile)>, ClusterFault> {
     let has_master = is_there(files, master_path(alloc, dir)?)?;
     for id in 1..=LAST_MEMBER {
         let has_file = is_there(files, node_path(alloc, dir, id)?)?;
         let is_member = roster.is_member(id);
         let is_founding = is_member && roster.is_founding(id);
         if !may_be(has_master, is_member, is_founding, has_file) {
-            return Ok(false);
+            let what = if has_file {
+                OtherFile::Surplus
+            } else {
+                OtherFile::Missing
+            };
+            return Ok(Some((id, what)));
         }
     }
-    Ok(true)
+    Ok(None)
 }
 
 /// Whether this file exists.

@@ -30,7 +30,7 @@ struct Watched {
     /// Whether it was closed at an earlier look.
     was_closed: bool,
     is_told: bool,
-    /// Whether a connection could not be accepted for want of a descriptor.
+    /// Whether a connection could not be accepted, or made for a fetch, for want of a descriptor.
     has_lacked: Arc<AtomicBool, Global>,
     /// How many looks pass until want of descriptors is told again.
     looks: u32,
@@ -81,14 +81,18 @@ impl Watched {
         }
     }
 
-    /// Says that connections of the member wait for want of descriptors, once a second at most.
+    /// Says that connections of the member wait, or its fetches fail, for want of descriptors, once a
+    /// second at most.
     fn tell_want<R: Eprint>(&mut self, rt: &R) {
         if 0 < self.looks {
             self.looks -= 1;
         } else if self.has_lacked.swap(false, Ordering::SeqCst) {
             self.looks = LOOKS;
             // (a standard error that takes nothing ends nothing)
-            let _ = eprintln!(rt; "node {} lacks descriptors: connections wait", self.id);
+            let _ = eprintln!(rt;
+                "node {} lacks descriptors: connections wait, fetches fail",
+                self.id
+            );
         }
     }
 }

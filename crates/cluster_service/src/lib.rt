@@ -12,7 +12,8 @@
 //! Both take the node's steps through a [`Stepper`](node_bytes::Stepper), so this crate does not
 //! stand on the seats. They share a [`Station`]: the tables, the roster, the senders and the loop's
 //! inbox. A [`Gate`] (a trait) is called before an origin is read. No lock is held while a socket
-//! is waited for. A request may take 15 seconds; then its client is told 504 ([`tell_late`]).
+//! is waited for. A request may take the roster's `ask_wait`; then its client is told 504
+//! ([`tell_late`]).
 //!
 //! Order of reading: `specs/Steps.antt` (which steps each thread takes), `specs/Questions.antt`,
 //! `specs/Addresses.antt`; `src/station.rt` (what is shared); `src/worker.rt`, `src/questions.rt`;

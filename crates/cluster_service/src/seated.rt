@@ -84,16 +84,25 @@ impl<N: Stepper + Drop, G: Gate + Drop, R: Wait + Clock> Seated<'_, N, G, R> {
         tell_client(self.rt, self.station, &mut self.kept, client, serve);
     }
 
-    /// Sends and serves what a step asks for, and returns what it begins. Whom a round waits for is
-    /// noted before its questions are sent. At a node that is to stop, nothing more begins.
+    /// Notes whom the round waits for that begins with a turn, and how long, if one begins. It is
+    /// called before the turn is carried out, so that no answer comes earlier. Returns false where
+    /// the round cannot wait.
+    pub(crate) fn prepare(&self, turn: &Turn) -> bool {
+        match &turn.begin {
+            Some(Begin::Round { serial }) => {
+                self.station.ask(self.rt, *serial, turn.send.as_slice())
+            }
+            _ => true,
+        }
+    }
+
+    /// Sends and serves what a step asks for, and returns what it begins. At a node that is to
+    /// stop, nothing more begins.
     pub(crate) fn carry_out(&mut self, turn: Turn) -> Option<Begin>
         ensures node { self.new.node ≡ self.old.node }
         ensures begins { BeginsAtMost turn result }
     {
         let Turn { serve, send, begin } = turn;
-        if let Some(Begin::Round { serial }) = &begin {
-            self.station.ask(self.rt, *serial, send.as_slice());
-        }
         self.station.send_all(send.as_slice());
         if let Some(serve) = serve {
             self.serve(serve);
@@ -114,20 +123,15 @@ impl<N: Stepper + Drop, G: Gate + Drop, R: Wait + Clock> Seated<'_, N, G, R> {
         }
     }
 
-    /// Has a round wait for `query_wait` milliseconds (of the roster). Where it cannot wait, or all
-    /// its peers are thought dead, its time is over at once.
-    pub(crate) fn begin_round(&mut self, serial: u32) -> Option<Turn>
+    /// Leaves a round waiting whose questions were sent. Where it cannot wait, or all its peers are
+    /// thought dead, its time is over at once.
+    pub(crate) fn begin_round(&mut self, serial: u32, can_wait: bool) -> Option<Turn>
         ensures { BeginsRound N.takes serial self.old.node self.new.node result }
     {
-        if self.station.tables.waits_for_none(self.rt, serial) {
+        if !can_wait || self.station.tables.waits_for_none(self.rt, serial) {
             return self.end_round(serial);
         }
-        let wait = self.station.roster.limits().query_wait;
-        let until = milliseconds(self.rt).saturating_add(wait);
-        match self.station.tables.begin(self.rt, until, serial) {
-            Ok(()) => None,
-            Err(_) => self.end_round(serial),
-        }
+        None
     }
 
     /// Takes the step of a round whose deadline has come. The peers that it still waited for have

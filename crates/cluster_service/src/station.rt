@@ -9,7 +9,9 @@ use crate::gate::Gate;
 use cluster_fetch::{Fetch, ResponseSource};
 use cluster_sockets::{Delivery, Errand, Inbox, Senders};
 use cluster_waiting::{PeerTable, WaitTables};
+use htcp_wire::{Content, HtcpFault, TST};
 use http_messages::Ask;
+use icp_wire::IcpFault;
 use node_bytes::{Packet, Turn};
 use node_rules::{Begin, Serve};
 use roster::{Address, Cache, Roster, Udp};
@@ -71,11 +73,36 @@ pub fn milliseconds<C: Clock>(clock: &C) -> u64 {
     }
 }
 
-/// The request number or TRANS-ID of the question that octets answer, if they may be an answer.
-fn number_in(udp: Udp, octets: &[u8]) -> Option<u32> {
+/// Whether octets spell a message of ICP. Those that need memory to be read do.
+fn is_spelled(alloc: Global, octets: &[u8]) -> bool {
+    match icp_wire::decode(alloc, octets) {
+        Ok(_) => true,
+        Err(fault) => fault == IcpFault::NoMemory,
+    }
+}
+
+/// Whether octets spell a response to TST (RFC 2756, "TST"). Where there is no memory to read them,
+/// any response of HTCP counts as one, so that want of memory makes no peer dead.
+fn is_of_test(alloc: Global, octets: &[u8]) -> bool {
+    match htcp_wire::decode(alloc, octets) {
+        Ok(message) => match message.content {
+            Content::TstHit { .. } | Content::TstMiss { .. } => true,
+            Content::Overall { opcode, .. } | Content::OtherAnswer { opcode, .. } => opcode == TST,
+            _ => false,
+        },
+        Err(fault) => fault == HtcpFault::NoMemory,
+    }
+}
+
+/// The request number or TRANS-ID of the question that octets answer, if they spell an answer.
+fn number_in(alloc: Global, udp: Udp, octets: &[u8]) -> Option<u32> {
     match udp {
-        Udp::Icp if !icp_wire::is_query(octets) => icp_wire::number_in(octets),
-        Udp::Htcp if htcp_wire::is_response(octets) => htcp_wire::trans_in(octets),
+        Udp::Icp if !icp_wire::is_query(octets) && is_spelled(alloc, octets) => {
+            icp_wire::number_in(octets)
+        }
+        Udp::Htcp if htcp_wire::is_response(octets) && is_of_test(alloc, octets) => {
+            htcp_wire::trans_in(octets)
+        }
         _ => None,
     }
 }
@@ -168,8 +195,9 @@ impl<G: Drop> Station<G> {
     }
 
     /// Notes whom a round waits for, before it sends these questions: its peers that are not
-    /// thought dead. Where there is no memory for the note, the round waits for all.
-    pub(crate) fn ask<R: Wait>(&self, rt: &R, serial: u32, questions: &[Packet]) {
+    /// thought dead. Where there is no memory for the note, the round waits for all. Has it wait
+    /// for `query_wait` milliseconds (of the roster), and returns whether it can wait.
+    pub(crate) fn ask<R: Wait + Clock>(&self, rt: &R, serial: u32, questions: &[Packet]) -> bool {
         let mut peers = 0;
         for question in questions {
             peers |= self.peers.waits_for(rt, question.by, question.to);
@@ -177,6 +205,13 @@ impl<G: Drop> Station<G> {
         match self.tables.ask(rt, serial, peers) {
             Ok(()) | Err(_) => {}
         }
+        self.begin_wait(rt, serial)
+    }
+
+    /// Has a round wait for `query_wait` milliseconds (of the roster). Returns whether it can wait.
+    fn begin_wait<R: Wait + Clock>(&self, rt: &R, serial: u32) -> bool {
+        let until = milliseconds(rt).saturating_add(self.roster.limits().query_wait);
+        self.tables.begin(rt, until, serial).is_ok()
     }
 
     /// Notes what a peer has sent by this protocol from this address, after the step that these
@@ -191,7 +226,7 @@ impl<G: Drop> Station<G> {
     ) -> Option<u32>
         ensures { IfSome result (λ serial. (turn.now.begin ≡ None) × (turn.now.serve ≡ None)) }
     {
-        let serial = number_in(udp, octets)?;
+        let serial = number_in(self.alloc, udp, octets)?;
         let peer = self.peers.answered(rt, udp, from)?;
         if turn.begin.is_some() || turn.serve.is_some() {
             self.tables.end(rt, serial);
@@ -287,8 +322,7 @@ impl<G: Drop> Station<G> {
     /// Has a round wait, or leaves a fetch in the inbox.
     fn leave_begin<R: Wait + Clock>(&self, rt: &R, begin: Begin) {
         if let Begin::Round { serial } = &begin {
-            let until = milliseconds(rt).saturating_add(self.roster.limits().query_wait);
-            let _ = self.tables.begin(rt, until, *serial);
+            let _ = self.begin_wait(rt, *serial);
         }
         if let Some(fetch) = fetch_of(&self.roster, begin) {
             let _ = self.inbox.put(rt, Errand::Fetch(fetch));

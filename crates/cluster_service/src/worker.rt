@@ -229,8 +229,9 @@ impl<N: Stepper + Drop, G: Gate + Drop, R: Wait + Clock> Worker<'_, N, G, R> {
     fn follow(&mut self, turn: Turn) -> Option<Turn>
         ensures { CarriesOn N.takes GivesUp turn self.old.seated.node self.new.seated.node result }
     {
+        let can_wait = self.seated.prepare(&turn);
         match self.seated.carry_out(turn)? {
-            Begin::Round { serial } => self.seated.begin_round(serial),
+            Begin::Round { serial } => self.seated.begin_round(serial, can_wait),
             fetch => self.hand_over(fetch),
         }
     }

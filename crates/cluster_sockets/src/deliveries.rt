@@ -3,7 +3,9 @@ ghost use Rattle.std.specs.Prelude.{IsTrue};
 ghost use Rattle.http_writing.specs.Name.{is_name as names_cache};
 
 use crate::delivery::{Delivered, Delivery};
+use crate::fetches::gets_place;
 use crate::lingering::Lingering;
+use crate::per_address::PerAddress;
 use crate::streams::Streams;
 use mio::{Registry, Token};
 use node_rules::{Serve, Served};
@@ -21,10 +23,19 @@ const MOST_NOTED: usize = 1024;
 /// How many connections are told at a poll at most that they are refused.
 const MOST_REFUSED: usize = 256;
 
-/// The responses under way, each under a key.
+/// A response under way, and the IPv4 address of its client.
+#[derive(Drop)]
+struct Placed {
+    delivery: Delivery,
+    ip: u32,
+}
+
+/// The responses under way, each under a key. An address gets one more of their 4,096 places only
+/// while more are free than it has, so one address leaves half of the places to others.
 #[derive(Drop)]
 pub(crate) struct Deliveries {
-    under_way: Slab<Delivery>,
+    under_way: Slab<Placed>,
+    per_address: PerAddress,
     /// How many of them linger, or will once they are written.
     lingering: Lingering,
     ready: Vec<usize>,
@@ -45,6 +56,7 @@ impl Deliveries {
     ) -> Result<Deliveries, AllocError> {
         Ok(Deliveries {
             under_way: Slab::new(alloc),
+            per_address: PerAddress::new(alloc),
             lingering: Lingering::new(),
             ready: Vec::with_capacity(alloc, MOST_NOTED)?,
             again: Vec::new(alloc),
@@ -61,8 +73,9 @@ impl Deliveries {
     }
 
     /// Goes on with a response, and keeps it until its client takes more. Where 4,096 are under
-    /// way, or there is no memory, its connection is closed. One that would linger behind 256
-    /// others is closed once it is written, also where a worker has written it.
+    /// way, as many to its client's address as places are free, or there is no memory, its
+    /// connection is closed. One that would linger behind 256 others is closed once it is written,
+    /// also where a worker has written it.
     pub(crate) fn add(&mut self, registry: &Registry, mut delivery: Delivery, via: &[u8])
         requires { IsTrue (names_cache via.now) }
     {
@@ -77,26 +90,44 @@ impl Deliveries {
         }
     }
 
+    /// Whether one more response to this IPv4 address may be kept.
+    fn has_room(&self, ip: u32) -> bool {
+        let free = MOST_DELIVERIES.saturating_sub(self.under_way.len()) as u64;
+        let own = u64::from(self.per_address.count(ip));
+        gets_place(MOST_DELIVERIES as u64, free, own)
+    }
+
     /// Keeps a response until its client takes more. Returns whether it is kept: it is closed where
-    /// 4,096 are under way, the poll does not take it, or there is no memory.
+    /// its client's address gets no place, the client has gone, the poll does not take it, or there
+    /// is no memory.
     fn keep(&mut self, registry: &Registry, mut delivery: Delivery, delivered: Delivered) -> bool {
         let token = Token(self.first_token.saturating_add(self.under_way.vacant_key()));
-        if self.under_way.len() >= MOST_DELIVERIES || delivery.register(registry, token).is_err() {
+        let Some(ip) = delivery.ip() else {
+            return false;
+        };
+        if !self.has_room(ip) || delivery.register(registry, token).is_err() {
             return false;
         }
-        match self.under_way.insert(delivery) {
+        if !self.per_address.add(ip) {
+            return false;
+        }
+        match self.under_way.insert(Placed { delivery, ip }) {
             Ok(key) => {
                 self.note_more(key, delivered);
                 true
             }
-            Err(_) => false,
+            Err(_) => {
+                self.per_address.remove(ip);
+                false
+            }
         }
     }
 
     /// Closes the connection of the response under this key.
     fn remove(&mut self, key: usize) {
-        if let Some(delivery) = self.under_way.try_remove(key) {
-            if delivery.lingers() {
+        if let Some(placed) = self.under_way.try_remove(key) {
+            self.per_address.remove(placed.ip);
+            if placed.delivery.lingers() {
                 self.lingering.end();
             }
         }
@@ -142,7 +173,7 @@ impl Deliveries {
         requires { IsTrue (names_cache via.now) }
     {
         let delivered = match self.under_way.get_mut(key) {
-            Some(delivery) => delivery.go_on(&mut self.kept, via),
+            Some(placed) => placed.delivery.go_on(&mut self.kept, via),
             None => return,
         };
         if delivered == Delivered::Ended {
@@ -173,7 +204,7 @@ impl Deliveries {
         }
         for key in 0..MOST_DELIVERIES {
             let is_late = match self.under_way.get_mut(key) {
-                Some(delivery) => delivery.is_late(now),
+                Some(placed) => placed.delivery.is_late(now),
                 None => false,
             };
             if is_late {

@@ -12,6 +12,7 @@ use std::alloc::{AllocError, Global};
 use std::io::{self, ErrorKind, Read, Write};
 use std::net::Shutdown;
 use std::time::{Duration, Instant};
+use values_plain::Address;
 
 /// How many octets of its response a client has to take in each second, on an average.
 const LEAST: u128 = 1024;
@@ -146,6 +147,14 @@ impl Delivery {
     /// Has the connection be closed once the response is written, also where it is written already.
     pub(crate) fn set_short(&mut self) {
         self.lingers = false;
+    }
+
+    /// The IPv4 address of its client; none where the client has gone.
+    pub(crate) fn ip(&self) -> Option<u32> {
+        match self.stream.peer_addr() {
+            Ok(from) => Some(Address::of_socket(from).ip),
+            Err(_) => None,
+        }
     }
 
     /// Has a poll tell, under this token, when it may go on.

@@ -10,6 +10,7 @@ use mio::{Registry, Token};
 use slab::Slab;
 use std::alloc::{AllocError, Global};
 use std::collections::VecDeque;
+use std::mem::replace;
 use std::net::Net;
 use std::sync::Wait;
 use std::time::{Duration, Instant};
@@ -38,10 +39,9 @@ struct Placed {
     line: usize,
 }
 
-/// Whether an address gets one fetch more that has this many under way: fewer than it may have at
-/// most, and fewer than places are free. So each address that does not answer leaves half of the
-/// places that it finds to others.
-fn gets_place(most: u64, free: u64, own: u64) -> bool
+/// Whether an address gets one place more that has this many: fewer than it may have at most, and
+/// fewer than are free. So each address leaves half of the places that it finds to others.
+pub(crate) fn gets_place(most: u64, free: u64, own: u64) -> bool
     ensures { result ≡ may_have_one most free own }
 {
     own < most.min(free)
@@ -62,7 +62,11 @@ pub(crate) struct Fetches {
     turn: usize,
     /// Where the look for late fetches goes on.
     looked: usize,
+    /// The line at which the look for fetches that nobody waits for goes on.
+    combed: usize,
     first_token: usize,
+    /// Whether a fetch lacked a descriptor since this was last asked.
+    has_lacked: bool,
     /// How many connections to one address are open at most.
     most_of_address: u64,
     /// How long a fetch may take, from the moment at which it begins to connect.
@@ -81,7 +85,9 @@ impl Fetches {
             may_begin: false,
             turn: 0,
             looked: MOST_FETCHES,
+            combed: 0,
             first_token,
+            has_lacked: false,
             most_of_address: limits.fetches_per_address,
             patience: Duration::from_millis(limits.fetch_wait),
         }
@@ -94,14 +100,21 @@ impl Fetches {
         Ok(())
     }
 
-    /// Whether some may go on without waiting.
-    pub(crate) fn has_more(&self) -> bool {
-        self.may_begin || !self.ready.is_empty() || self.looked < MOST_FETCHES
+    /// Whether a fetch failed for want of a descriptor since this was last called.
+    pub(crate) fn has_lacked(&mut self) -> bool {
+        replace(&mut self.has_lacked, false)
     }
 
-    /// Begins a look at all fetches, which `next_late` goes on with.
+    /// Whether some may go on without waiting.
+    pub(crate) fn has_more(&self) -> bool {
+        let looks = self.looked < MOST_FETCHES || self.combed < self.lines.len();
+        self.may_begin || !self.ready.is_empty() || looks
+    }
+
+    /// Begins a look at all fetches, which `next_found` goes on with.
     pub(crate) fn begin_look(&mut self) {
         self.looked = 0;
+        self.combed = 0;
     }
 
     /// The place of the line of an address.
@@ -174,7 +187,10 @@ impl Fetches {
         let until = now.checked_add(self.patience).unwrap_or(now);
         match Fetching::begin(net, self.alloc, fetch, via, until) {
             Ok(fetching) => self.keep(registry, Placed { fetching, line }),
-            Err(failed) => Some(failed),
+            Err(failed) => {
+                self.has_lacked = self.has_lacked || failed.lacks_descriptor;
+                Some(failed.fetched)
+            }
         }
     }
 
@@ -289,9 +305,41 @@ impl Fetches {
         None
     }
 
-    /// Goes on with a look: gives the next fetch whose time is over, or whose response has come
-    /// whole since it was last read.
-    pub(crate) fn next_late(&mut self, registry: &Registry, now: Instant) -> Option<Fetched> {
+    /// Goes on with a look: gives the next fetch that it finds to have ended. First are those under
+    /// way, and then those that are first in their lines and that nobody waits for.
+    pub(crate) fn next_found<A: AtOnce, R: Wait>(
+        &mut self,
+        rt: &R,
+        registry: &Registry,
+        at_once: &A,
+        now: Instant,
+    ) -> Option<Fetched> {
+        match self.next_late(registry, now) {
+            None => self.next_unwanted(rt, at_once),
+            late => late,
+        }
+    }
+
+    /// Takes out the next fetch that is the first in its line and whose client no longer waits, or
+    /// has gone away. It has failed.
+    fn next_unwanted<A: AtOnce, R: Wait>(&mut self, rt: &R, at_once: &A) -> Option<Fetched> {
+        for place in self.combed..self.lines.len() {
+            self.combed = place;
+            let waiting = &mut self.lines.get_mut(place)?.waiting;
+            match waiting.front() {
+                Some(fetch) if !at_once.is_there(rt, fetch.serial) => {
+                    return Some(waiting.pop_front()?.into_failed());
+                }
+                _ => {}
+            }
+        }
+        self.combed = self.lines.len();
+        None
+    }
+
+    /// Goes on with a look: gives the next fetch under way whose time is over, or whose response
+    /// has come whole since it was last read.
+    fn next_late(&mut self, registry: &Registry, now: Instant) -> Option<Fetched> {
         for key in self.looked..MOST_FETCHES {
             self.looked = key.saturating_add(1);
             let answer = match self.under_way.get_mut(key) {

@@ -140,10 +140,12 @@ impl NodeLoop {
         self.wait = most;
     }
 
-    /// Whether a connection could not be accepted for want of a descriptor since this was last
-    /// called. It waits in the listener's line until there is one.
+    /// Whether a connection could not be accepted, or made for a fetch, for want of a descriptor
+    /// since this was last called. One that could not be accepted waits in the listener's line
+    /// until there is one; the fetch has failed.
     pub fn has_lacked_descriptors(&mut self) -> bool {
-        self.streams.has_lacked()
+        let has_fetch_lacked = self.fetches.has_lacked();
+        self.streams.has_lacked() || has_fetch_lacked
     }
 
     /// How long a poll waits at most now.
@@ -312,7 +314,7 @@ impl NodeLoop {
         let registry = self.poll.registry();
         let via = self.via.as_slice();
         match self.fetches.next_ended(rt, registry, at_once, via, now) {
-            None => self.fetches.next_late(registry, now),
+            None => self.fetches.next_found(rt, registry, at_once, now),
             ended => ended,
         }
     }

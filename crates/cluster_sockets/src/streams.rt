@@ -7,13 +7,14 @@ use crate::fault::LoopFault;
 use crate::heads::{Head, Reading};
 use crate::per_address::PerAddress;
 use crate::putting::{Come, put};
+use cluster_fetch::is_want_of_descriptors;
 use cluster_jobs::{Job, Jobs, Pass, Run};
 use mio::Registry;
 use mio::net::{TcpListener, TcpStream};
 use slab::Slab;
 use std::alloc::{AllocError, Global};
 use std::collections::VecDeque;
-use std::io::{self, ErrorKind};
+use std::io::ErrorKind;
 use std::mem::replace;
 use std::sync::Wait;
 use std::time::Instant;
@@ -31,17 +32,6 @@ const MOST_LATE: usize = 64;
 
 /// How many milliseconds pass between two looks for connections whose five seconds have passed.
 const BETWEEN_LOOKS: u128 = 100;
-
-/// The errors of the system where the process, or the whole system, has no more descriptors.
-const WANT_OF_DESCRIPTORS: [i32; 2] = [24, 23];
-
-/// Whether a call failed for want of a descriptor.
-fn is_want_of_descriptors(error: &io::Error) -> bool {
-    match error.raw_os_error() {
-        Some(number) => WANT_OF_DESCRIPTORS.contains(&number),
-        None => false,
-    }
-}
 
 /// Accepts a node's connections, and keeps those whose requests have not come.
 #[derive(Drop)]

@@ -1,1 +1,2 @@
+-- `Ascending`: rounds stay in the order of their deadlines.
 mod Ascending

@@ -24,7 +24,7 @@ fault_behind section left =
     if is_none (content_at section) then Some BadString
     else (if is_bad_auth left then Some BadAuth else None)
 
--- the first fault of a datagram, none if it spells a message
+-- the first fault of a datagram, none if it spells a message [HTCP 6]
 unfoldable pub first_fault : List ℕ → Option HtcpFault
 first_fault octets =
     if nat_lt (length octets) shortest_message then Some Short

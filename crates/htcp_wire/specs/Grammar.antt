@@ -90,7 +90,7 @@ is_answer opcode code =
     ((opcode == nop) && (code == 0)) || ((opcode == tst) && (code == 0)) || ((opcode == tst) && (code == 1))
     || ((opcode == clr) && (nat_le code 2))
 
--- which DATA a content has
+-- which DATA a content has [HTCP 2]
 abbrev pub IsContent : Content → Data → Type 0
 IsContent (NopAsk desired) section = Asks section nop desired
 IsContent NopAnswer section = Answers section nop 0 false
@@ -123,7 +123,7 @@ data_text reserved trans section =
 abbrev pub auth : List ℕ → List ℕ
 auth signature = big_bytes 2 (2 + length signature) ++ signature
 
--- the octets spell the message: HEADER, DATA and AUTH, and any octets behind them
+-- the octets spell the message: HEADER, DATA and AUTH, and any octets behind them [HTCP 1]
 pub record Spells (octets : List ℕ) (message : Htcp) : Type 0 where
   pub section : Data
   pub reserved : ℕ

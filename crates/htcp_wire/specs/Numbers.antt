@@ -83,6 +83,6 @@ number_of_values (value ∷ []) = if is_number value then Ok (Some (digits_value
 number_of_values (value ∷ other ∷ values) = Err BadNumber
 
 -- the number of the one line of its kind: none if there is no such line, `BadNumber` if there are
--- two or the number is not good
+-- two or the number is not good [Number 1]
 abbrev pub number_in_text : List ℕ → HeaderKind → Result (Option ℕ) HtcpFault
 number_in_text text kind = number_of_values (filter_map (value_in (line_name kind)) (lines_of text))

@@ -50,7 +50,7 @@ InRange content = Unit {0}
 abbrev pub longest_written : ℕ
 longest_written = 16384
 
--- which messages are written: of MINOR 0, no OtherAnswer, with numbers in range, and not too long
+-- which messages are written: of MINOR 0, no OtherAnswer, with numbers in range, and not too long [HTCP 3]
 pub record Fits (message : Htcp) : Type 0 where
   pub minor : message.minor ≡ 0
   pub in_range : InRange message.content

@@ -4,7 +4,7 @@ use Rattle.std.specs.Io.KnownBytes.{Consumes}
 use Rattle.http_messages.specs.declared.fault.FetchFault.{FetchFault}
 use Rattle.http_messages.specs.declared.fault.FetchFault.TheVariants.{Io, EndOfInput, TooManyTurns, NoMemory}
 
--- the most calls of a reader for one message
+-- the most calls of a reader for one message [HTTP 5]
 abbrev pub most_turns : ℕ
 most_turns = 70000
 

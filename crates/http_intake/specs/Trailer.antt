@@ -46,13 +46,13 @@ StopsInTrailer reader held start EndOfInput = IsOpenTrailer (drop start held.oct
 StopsInTrailer reader held start TooManyTurns = IsOpenTrailer (drop start held.octets) × (held.calls ≡ most_turns)
 StopsInTrailer reader held start fault = RefusesTrailer (head_window start held.octets) fault
 
--- the octets from `start` to `end` are chunks, the line of the last one and a trailer
+-- the octets from `start` to `end` are chunks, the line of the last one and a trailer [HTTP 15]
 pub record HoldsChunkedBody (octets : List ℕ) (start end : ℕ) (body : List ℕ) : Type 0 where
   pub trailer : ℕ
   pub chunks : HoldsChunks octets start trailer body
   pub section : HoldsTrailer octets trailer end
 
--- why reading stopped in a chunked body: at a chunk, or in the trailer
+-- why reading stopped in a chunked body: at a chunk, or in the trailer [HTTP 16]
 abbrev pub StopsInChunkedBody : Option (List ℕ) → Held → ℕ → FetchFault → Type 0
 StopsInChunkedBody reader held start fault =
     StopsInChunks reader held start fault

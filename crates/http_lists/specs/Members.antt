@@ -38,6 +38,6 @@ members_from quoting (octet ∷ text) =
       | false ↦ onto_first octet (members_from (quoting_after quoting octet) text)
     ]
 
--- the members of a value; an empty value has one, which is empty
+-- the members of a value; an empty value has one, which is empty [Directive 1]
 abbrev pub members : List ℕ → List (List ℕ)
 members value = members_from Outside value

@@ -4,7 +4,7 @@ ghost use Rattle.std.specs.Prelude.{◌≡◌, not, position};
 ghost use Rattle.http_lists.specs.Blanks as spec;
 
 /// Whether the octet is a space or a tab.
-fn is_blank(octet: u8) -> bool
+pub(crate) fn is_blank(octet: u8) -> bool
     ensures { result ≡ spec.is_blank octet }
 {
     octet == b' ' || octet == b'\t'

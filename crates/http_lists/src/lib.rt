@@ -4,7 +4,8 @@
 //! - [`members_of`] iterates over the members of a value ([`Members`]). A comma outside quoted
 //!   strings separates two members.
 //! - [`member_length`] says where the first member ends, for a caller that walks the value itself.
-//! - [`is_closed`] says whether each quoted string of a value is closed.
+//! - [`is_well_quoted`] says whether each quoted string of a value is closed, and begins where one
+//!   may.
 //! - [`trim`] removes spaces and tabs at both ends of a text (RFC 9110, section 5.6.3).
 //! - [`members_are_exact`] is a law without code: the cut gives the members by the grammar of
 //!   lists and quoted strings, and no other list of members fits the grammar.
@@ -26,4 +27,4 @@ mod members;
 
 pub use blanks::trim;
 pub use laws::members_are_exact;
-pub use members::{Members, is_closed, member_length, members_of};
+pub use members::{Members, is_well_quoted, member_length, members_of};

@@ -2,9 +2,12 @@
 
 ghost use Rattle.std.specs.Prelude.{◌≡◌, ◌+◌, ◌≤◌, [], ◌∷◌, length, take, drop, nat_lt};
 ghost use Rattle.std.specs.Prelude.{if◌then◌else◌};
-ghost use Rattle.http_lists.specs.Cut.{is_closed as is_closed_list, is_outside};
+ghost use Rattle.http_lists.specs.Cut.{is_well_quoted as is_well_quoted_list, is_outside};
+ghost use Rattle.http_lists.specs.Cut.{is_stray as is_stray_octet, is_lead as is_lead_octet};
 ghost use Rattle.http_lists.specs.Left.{members_left};
 ghost use Rattle.http_lists.specs.Members.{members, quoting_after, ends_member as is_end};
+
+use crate::blanks::is_blank;
 
 /// Whether an octet of a field value stands in a quoted string (RFC 9110, section 5.6.4).
 #[derive(Clone, Copy, Debug, PartialEq, Eq)]
@@ -39,16 +42,40 @@ impl Quoting {
     }
 }
 
-/// Whether each quoted string of a field value is closed (RFC 9110, section 5.6.4). One that is not
-/// holds the rest of the value, with its commas.
-pub fn is_closed(value: &[u8]) -> bool
-    ensures { result ≡ is_closed_list value.now }
+/// Whether each quoted string of a field value is closed, and begins where one may: at the start of
+/// a member or of a parameter's value, behind a comma, a semicolon or `=`, with blanks between or
+/// not (RFC 9110, sections 5.6.4 and 5.6.6). Any other may hide the members behind its first quote.
+pub fn is_well_quoted(value: &[u8]) -> bool
+    ensures { result ≡ is_well_quoted_list value.now }
 {
     let mut state = Quoting::Outside;
+    // (the value begins with a member)
+    let mut lead = b',';
     for octet in value {
+        if is_stray(state, lead, *octet) {
+            return false;
+        }
         state = state.after(*octet);
+        if !is_blank(*octet) {
+            lead = *octet;
+        }
     }
     state.is_outside()
+}
+
+/// Whether the octet opens a quoted string where none may begin, given the last octet before it
+/// that is no blank.
+fn is_stray(quoting: Quoting, lead: u8, octet: u8) -> bool
+    ensures { result ≡ is_stray_octet quoting lead octet }
+{
+    quoting == Quoting::Outside && octet == b'"' && !is_lead(lead)
+}
+
+/// Whether a quoted string may begin behind this octet.
+fn is_lead(octet: u8) -> bool
+    ensures { result ≡ is_lead_octet octet }
+{
+    octet == b',' || octet == b';' || octet == b'='
 }
 
 /// Whether a member ends at this octet: at a comma outside quoted strings.

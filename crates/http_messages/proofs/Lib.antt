@@ -1,1 +1,2 @@
+-- `FieldLemmas`: what loops over fields keep.
 pub mod FieldLemmas

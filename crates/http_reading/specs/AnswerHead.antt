@@ -80,7 +80,7 @@ framed h (Err fault) = Err fault
 framed h (Ok framing) = Ok (told_with h framing)
 
 -- what a head says, or its first fault: by its status, by the limits of kept fields, by the length
--- of its body
+-- of its body [HTTP 12]
 abbrev pub told : AnswerHead → Result ToldText FetchFault
 told h =
     if not (is_final h.status) then Err BadHead

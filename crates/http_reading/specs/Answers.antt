@@ -29,7 +29,7 @@ pub record IsShortHead (h : ResponseHead) : Type 0 where
 abbrev pub IsInterim : ResponseHead → Type 0
 IsInterim h = IsShortHead h × (is_interim (status_code h) ≡ true)
 
--- the octets up to `start` are interim heads (RFC 9110, section 15.2)
+-- the octets up to `start` are interim heads (RFC 9110, section 15.2) [HTTP 11]
 pub record PassesInterim (octets : List ℕ) (start : ℕ) : Type 0 where
   pub heads : List ResponseHead
   pub interim : AllByRecursion IsInterim heads
@@ -49,7 +49,7 @@ pub record HeadSays (octets : List ℕ) (start end : ℕ) (outcome : Result Told
   pub says : told (parts_of head) ≡ outcome
 
 -- the octets from `start` to `end` spell a body that ends as the framing says; one up to the end
--- of the input ends with all octets (RFC 9112, section 6.3)
+-- of the input ends with all octets (RFC 9112, section 6.3) [HTTP 14]
 abbrev pub SpellsBody : Option Framing → List ℕ → ℕ → ℕ → List ℕ → Type 0
 SpellsBody None octets start end body = (end ≡ start) × (body ≡ [])
 SpellsBody (Some (Length n)) octets start end body = (end ≡ start + n) × (end ≤ length octets)
@@ -76,7 +76,7 @@ abbrev pub EndsWithInput : Option Framing → Option (List ℕ) → ℕ → Type
 EndsWithInput (Some ToEnd) reader calls = IsAtEnd reader × (calls < most_turns)
 EndsWithInput framing reader calls = ⊤
 
--- why reading stopped at a head that begins at `start`
+-- why reading stopped at a head that begins at `start` [HTTP 7]
 abbrev pub StopsAtHead : Option (List ℕ) → Held → ℕ → FetchFault → Type 0
 StopsAtHead reader held start Io = IsOpenResponse (drop start held.octets)
 StopsAtHead reader held start NoMemory = ⊤

@@ -30,6 +30,6 @@ host fields = host_told (values_named (codes "host") fields)
 abbrev pub has_credentials : List (List ℕ × List ℕ) → Bool
 has_credentials fields = has_field (codes "authorization") fields || has_field (codes "proxy-authorization") fields
 
--- the member that sent the request, 1 to 16: the number of the only `x-purge-member` field
+-- the member that sent the request, 1 to 16: the number of the only `x-purge-member` field [HTTP 9]
 abbrev pub member : List (List ℕ × List ℕ) → Option ℕ
 member fields = option_and_then (plain_number 1 16) (only_of (values_named (codes "x-purge-member") fields))

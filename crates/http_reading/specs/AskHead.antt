@@ -93,7 +93,7 @@ abbrev pub SaysBy : Option FetchFault → AskHead → Result Ask FetchFault → 
 SaysBy (Some fault) h outcome = outcome ≡ Err fault
 SaysBy None h outcome = (read : Result (List ℕ) KeyFault) × HasKey (url_of h) read × (outcome ≡ asked h.fields read)
 
--- the head makes this request, or this is its first fault
+-- the head makes this request, or this is its first fault [HTTP 8]
 abbrev pub Says : AskHead → Result Ask FetchFault → Type 0
 Says h outcome = SaysBy (first_fault h) h outcome
 

@@ -38,7 +38,7 @@ pub record IsLongHead (octets : List ℕ) (in_target : Bool) : Type 0 where
   pub long : IsLongRequest (head_window 0 octets)
   pub ends : is_in_target (head_window 0 octets) ≡ in_target
 
--- why reading stopped in a request after these octets, which so many calls gave
+-- why reading stopped in a request after these octets, which so many calls gave [HTTP 7]
 abbrev pub StopsInAsk : Option (List ℕ) → Held → FetchFault → Type 0
 StopsInAsk reader held Io = IsOpenRequest held.octets
 StopsInAsk reader held NoMemory = ⊤

@@ -15,7 +15,7 @@ is_bare name member = str_eq_ignore_ascii_case (trim member) name
 abbrev pub has_member : List ℕ → List ℕ → Bool
 has_member name value = list_any (is_bare name) (members value)
 
--- a `cache-control` field has this directive
+-- a `cache-control` field has this directive [HTTP 9]
 abbrev pub has_directive : List ℕ → List (List ℕ × List ℕ) → Bool
 has_directive name fields = list_any (has_member name) (values_named (codes "cache-control") fields)
 

@@ -1,8 +1,9 @@
 -- The octets of an authority, and of a path and query (RFC 3986, sections 2 and 3).
-use Rattle.std.specs.Prelude.{ℕ, ◌-◌, Bool, true, false, ◌&&◌, ◌||◌, ◌==◌, nat_le, List, [], ◌∷◌, length, slice_index, slice_range, codes, if◌then◌else◌}
+use Rattle.std.specs.Prelude.{ℕ, ◌+◌, ◌-◌, Bool, true, false, ◌&&◌, ◌||◌, ◌==◌, nat_le, nat_lt, List, [], ◌∷◌, length, drop, slice_index, slice_range, codes}
+use Rattle.std.specs.Prelude.{if◌then◌else◌}
 use Rattle.std.specs.List.{list_all, list_any}
 use Rattle.std.specs.Char.{is_ascii_alphanumeric, is_ascii_digit, is_ascii_hexdigit}
-use Rattle.http_uri.specs.ByteClasses.{colon, percent_sign, left_bracket, right_bracket}
+use Rattle.http_uri.specs.ByteClasses.{colon, percent_sign, left_bracket, right_bracket, index_of}
 use Rattle.url_key.specs.Text.{host_of, after_host, key_authority, key_path}
 
 -- the octet is one of these
@@ -31,15 +32,46 @@ unfoldable pub is_written : List ℕ → List ℕ → Bool
 is_written others [] = true
 is_written others (octet ∷ behind) = may_stand others octet behind && is_written others behind
 
--- an octet of an address in brackets
-abbrev pub is_of_address : ℕ → Bool
-is_of_address octet = is_plain octet || (octet == colon)
+-- `.`
+abbrev pub full_stop : ℕ
+full_stop = 46
 
--- An address in brackets (RFC 3986, section 3.2.2). The count of its groups is not looked at.
+-- an octet of an IPv6 address: a hexadecimal digit, a colon, or a dot of the IPv4 address at its end
+abbrev pub is_of_ipv6 : ℕ → Bool
+is_of_ipv6 octet = is_ascii_hexdigit octet || (octet == colon) || (octet == full_stop)
+
+-- a colon stands in the text
+abbrev pub has_colon : List ℕ → Bool
+has_colon text = list_any (λ octet. octet == colon) text
+
+-- a colon stands in the text, and another one behind the first
+abbrev pub has_two_colons : List ℕ → Bool
+has_two_colons text = nat_lt (index_of colon text) (length text) && has_colon (drop (index_of colon text + 1) text)
+
+-- The octets of an IPv6 address, two colons at least among them (RFC 3986, section 3.2.2:
+-- IPv6address). Its groups are not looked at.
+abbrev pub is_ipv6 : List ℕ → Bool
+is_ipv6 text = has_two_colons text && list_all is_of_ipv6 text
+
+-- an octet behind the version of a later kind of address
+abbrev pub is_of_later : ℕ → Bool
+is_of_later octet = is_plain octet || (octet == colon)
+
+-- an address of a later kind, whose first full stop is at `dot`: `v`, the version in hexadecimal
+-- digits, the full stop, and plain octets or colons (RFC 3986, section 3.2.2: IPvFuture)
+abbrev pub is_later_at : ℕ → List ℕ → Bool
+is_later_at dot text = nat_le 2 dot && nat_le (dot + 2) (length text) && is_one_of (codes "vV") (slice_index text 0)
+    && list_all is_ascii_hexdigit (slice_range text 1 dot) && list_all is_of_later (drop (dot + 1) text)
+
+-- an address of a later kind
+abbrev pub is_later : List ℕ → Bool
+is_later text = is_later_at (index_of full_stop text) text
+
+-- an address in brackets (RFC 3986, section 3.2.2: IP-literal)
 abbrev pub is_address : List ℕ → Bool
 is_address host =
-    nat_le 3 (length host) && (slice_index host 0 == left_bracket) && (slice_index host (length host - 1) == right_bracket)
-    && list_all is_of_address (slice_range host 1 (length host - 1))
+    nat_le 2 (length host) && (slice_index host 0 == left_bracket) && (slice_index host (length host - 1) == right_bracket)
+    && (is_ipv6 (slice_range host 1 (length host - 1)) || is_later (slice_range host 1 (length host - 1)))
 
 -- a host: an address in brackets, or a name, which may be empty (RFC 3986, section 3.2.2)
 abbrev pub is_host : List ℕ → Bool
@@ -58,6 +90,6 @@ is_authority value = is_host (host_of value) && may_follow_host (after_host valu
 abbrev pub path_octets : List ℕ
 path_octets = codes ":@/?"
 
--- the key is that of a URI: its authority, path and query have only octets that may stand there
+-- the key is that of a URI: its authority, path and query have only octets that may stand there [HTTP 8]
 abbrev pub is_uri_key : List ℕ → Bool
 is_uri_key key = is_authority (key_authority key) && is_written path_octets (key_path key)

@@ -34,6 +34,6 @@ names_later octets end = nat_le 9 end && bytes_eq (slice_range octets (end - 9) 
     && is_in_range 50 57 (slice_index octets (end - 1))
 
 -- The octets of a request as a recipient of HTTP/1.1 has to read them: a later minor version at the
--- end of the request line counts as 1 (RFC 9110, section 6.2).
+-- end of the request line counts as 1 (RFC 9110, section 6.2). [HTTP 6]
 abbrev pub as_known : List ℕ → List ℕ
 as_known octets = if names_later octets (line_end octets) then slice_set octets (line_end octets - 1) 49 else octets

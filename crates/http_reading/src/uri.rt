@@ -2,7 +2,7 @@
 
 ghost use Rattle.std.specs.Prelude.{◌≡◌, ◌≤◌, length};
 ghost use Rattle.std.specs.List.{list_all};
-ghost use Rattle.std.specs.Char.{is_ascii_digit};
+ghost use Rattle.std.specs.Char.{is_ascii_digit, is_ascii_hexdigit};
 ghost use Rattle.http_uri.specs.ByteClasses as bytes;
 ghost use Rattle.url_key.specs.Text.{host_of as host_named};
 ghost use Rattle.http_reading.specs.Uri as spec;
@@ -58,28 +58,79 @@ fn is_host(host: &[u8]) -> bool
     }
 }
 
-/// Whether the text is an address in brackets. The count of its groups is not looked at.
+/// Whether the text is an address in brackets: one of IPv6, by its octets, or one of a later kind
+/// (RFC 3986, section 3.2.2).
 fn is_address(host: &[u8]) -> bool
     ensures { result ≡ spec.is_address host.now }
 {
     match host {
-        [b'[', address @ .., b']'] => !address.is_empty() && are_of_address(address),
+        [b'[', address @ .., b']'] => is_ipv6(address) || is_later(address),
         _ => false,
     }
 }
 
-/// Whether each octet may stand in an address.
-fn are_of_address(address: &[u8]) -> bool
-    ensures { result ≡ list_all spec.is_of_address address.now }
+/// Whether the text has the octets of an IPv6 address, two colons at least among them. The count of
+/// its groups is not judged.
+fn is_ipv6(address: &[u8]) -> bool
+    ensures { result ≡ spec.is_ipv6 address.now }
 {
-    address.iter().all(|octet| is_of_address(*octet))
+    has_two_colons(address) && are_of_ipv6(address)
 }
 
-/// Whether the octet may stand in an address in brackets.
-fn is_of_address(octet: u8) -> bool
-    ensures { result ≡ spec.is_of_address octet }
+/// Whether each octet may stand in an IPv6 address.
+fn are_of_ipv6(text: &[u8]) -> bool
+    ensures { result ≡ list_all spec.is_of_ipv6 text.now }
 {
-    is_plain(octet) || octet == b':'
+    text.iter().all(|octet| is_of_ipv6(*octet))
+}
+
+/// Whether a colon stands in the text, and another one behind the first.
+fn has_two_colons(text: &[u8]) -> bool
+    ensures { result ≡ spec.has_two_colons text.now }
+{
+    let first = index_of(b':', text);
+    first < text.len() && has_colon(&text[first + 1..])
+}
+
+/// Whether a colon stands in the text.
+fn has_colon(text: &[u8]) -> bool
+    ensures { result ≡ spec.has_colon text.now }
+{
+    text.iter().any(|octet| *octet == b':')
+}
+
+/// Whether the octet may stand in an IPv6 address.
+fn is_of_ipv6(octet: u8) -> bool
+    ensures { result ≡ spec.is_of_ipv6 octet }
+{
+    octet.is_ascii_hexdigit() || octet == b':' || octet == b'.'
+}
+
+/// Whether the text is an address of a later kind: `v`, hexadecimal digits, `.`, and plain octets
+/// or colons.
+fn is_later(address: &[u8]) -> bool
+    ensures { result ≡ spec.is_later address.now }
+{
+    let dot = index_of(b'.', address);
+    dot >= 2
+        && dot + 2 <= address.len()
+        && is_one_of(b"vV", address[0])
+        && are_hexadecimal(&address[1..dot])
+        && are_of_later(&address[dot + 1..])
+}
+
+/// Whether each octet is a hexadecimal digit.
+fn are_hexadecimal(text: &[u8]) -> bool
+    ensures { result ≡ list_all is_ascii_hexdigit text.now }
+{
+    text.iter().all(|octet| octet.is_ascii_hexdigit())
+}
+
+/// Whether each octet may stand behind the version of a later kind of address.
+fn are_of_later(text: &[u8]) -> bool
+    ensures { result ≡ list_all spec.is_of_later text.now }
+{
+    text.iter().all(|octet| is_plain(*octet) || *octet == b':')
 }
 
 /// Whether the text may follow a host: nothing, or `:` and digits, which may be none.

@@ -30,7 +30,7 @@ number_lines age stamp body_length =
 abbrev pub told_length : AnswerText → Option ℕ
 told_length a = if has_no_body a.status then None else Some (length a.body)
 
--- the text of a response that a cache with this name writes
+-- the text of a response that a cache with this name writes [HTTP 3]
 abbrev pub answer_text : AnswerText → List ℕ → List ℕ
 answer_text a via =
     first_lines a.status a.fields

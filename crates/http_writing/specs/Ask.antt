@@ -27,7 +27,7 @@ cache_control_line false false = []
 abbrev pub key_lines : AskForm → List ℕ → List ℕ
 key_lines form key = request_line (target form key) ++ field_line (codes "host") (key_authority key)
 
--- the text of a request that a cache with this name writes
+-- the text of a request that a cache with this name writes [HTTP 2]
 abbrev pub ask_text : AskForm → Ask → List ℕ → List ℕ
 ask_text form ask via =
     key_lines form ask.key

@@ -7,6 +7,6 @@ use Rattle.std.specs.Int.{is_in_range}
 abbrev pub is_name_octet : ℕ → Bool
 is_name_octet octet = is_in_range 97 122 octet || is_in_range 48 57 octet
 
--- 1 to 32 such octets
+-- 1 to 32 such octets [HTTP 1]
 abbrev pub is_name : List ℕ → Bool
 is_name name = nat_lt 0 (length name) && nat_le (length name) 32 && list_all is_name_octet name

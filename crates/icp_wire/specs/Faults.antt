@@ -30,7 +30,7 @@ abbrev pub opcode_fault : Option IcpOp → List ℕ → Option IcpFault
 opcode_fault None payload = Some BadOpcode
 opcode_fault (Some op) payload = payload_fault op payload
 
--- the first fault of a datagram, none if it spells a message
+-- the first fault of a datagram, none if it spells a message [ICP 4]
 unfoldable pub first_fault : List ℕ → Option IcpFault
 first_fault octets =
     if nat_lt (length octets) header_length then Some Short

@@ -30,7 +30,7 @@ opcode MissNoFetch = 21
 opcode Denied = 22
 opcode HitObj = 23
 
--- the payload of a message with this URL and this object, which is empty in all but a HIT_OBJ:
+-- the payload of a message with this URL and this object, which is empty in all but a HIT_OBJ: [ICP 2]
 abbrev pub IsPayload : IcpOp → List ℕ → List ℕ → List ℕ → Type 0
 -- "ICP_OP_QUERY": the address of the host that wants the object, the URL, a zero octet
 IsPayload Query url object payload =
@@ -41,7 +41,7 @@ IsPayload HitObj url object payload = (length object < 2 ^ 16) × (payload ≡ u
 IsPayload op url object payload = (object ≡ []) × (payload ≡ url ++ 0 ∷ [])
 
 -- the octets spell the message, for some options, option data, sender host address and payload
--- ("ICP Message Format")
+-- ("ICP Message Format") [ICP 1]
 pub record Spells (octets : List ℕ) (message : Icp) : Type 0 where
   pub options : List ℕ
   pub option_data : List ℕ

@@ -27,7 +27,7 @@ abbrev pub written : Icp → List ℕ
 written message = written_with message.op message.number (written_payload message.op message.url)
 
 -- which messages are written: all but a HIT_OBJ, without an object and without a zero octet in the
--- URL, if they are not too long
+-- URL, if they are not too long [ICP 3]
 pub record Fits (message : Icp) : Type 0 where
   pub op : message.op ≢ HitObj
   pub object : message.object ≡ []

@@ -1,1 +1,2 @@
+-- `Replaying`: an entry that the book adds makes its replay one step longer.
 pub mod Replaying

@@ -16,9 +16,8 @@
 //! are compared. It allocates nothing.
 //!
 //! A node's book uses the duplicates (`node_book`): it keeps one of each event and hands out one of
-//! each reply. `node_seats` compares what its threads were told with the book. The check of
-//! recorded runs uses both, to compare a record with a replay. The crate touches no file, socket,
-//! clock or thread.
+//! each reply. The check of recorded runs uses both, to compare a record with a replay. The crate
+//! touches no file, socket, clock or thread.
 #![tactic(auto)]
 
 mod events;

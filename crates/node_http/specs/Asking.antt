@@ -44,7 +44,7 @@ abbrev pub is_anothers_id : Tables → ℕ → ℕ → Bool
 is_anothers_id roster id member = is_member roster member && not (member == id)
 
 -- The member that sends a request to the node of this id: the one that the request names, unless it
--- is not in the roster or is the node itself.
+-- is not in the roster or is the node itself. [HTTP 9]
 abbrev pub asker_of : Tables → ℕ → Option ℕ → Option ℕ
 asker_of roster id None = None
 asker_of roster id (Some member) = if is_anothers_id roster id member then Some member else None

@@ -11,7 +11,7 @@ abbrev pub stamp_for : Option ℕ → ℕ → Option ℕ
 stamp_for None stamp = None
 stamp_for (Some member) stamp = Some stamp
 
--- The response: a copy with its age, or a bare status.
+-- The response: a copy with its age, or a bare status. [HTTP 4]
 abbrev pub answer_for : Option ℕ → Served (Unit {0}) → AnswerText
 answer_for asker (Copy c age) = served_as c.answer age (stamp_for asker c.stamp)
 answer_for asker (Status status) = bare status

@@ -10,7 +10,7 @@ use Rattle.node_http.specs.declared.fault.ServeFault.{ServeFault}
 use Rattle.node_http.specs.declared.fault.ServeFault.TheVariants.{Fetch, Step}
 
 -- The status for a request that was not read, by its fault (414: RFC 9112, section 3; 431: RFC 6585,
--- section 5). Nothing is written if the request has no end.
+-- section 5). Nothing is written if the request has no end. [HTTP 10]
 abbrev pub refusal_of : FetchFault → Option ℕ
 refusal_of Io = None
 refusal_of EndOfInput = None

@@ -35,7 +35,7 @@ abbrev pub get : List ℕ → Specifier
 get key = record { method = codes "GET"; uri = key; version = codes "HTTP/1.1"; request_headers = [] }
 
 -- The query of a round, by the peer's protocol: a QUERY or a TST. The round's serial is the request
--- number or the TRANS-ID.
+-- number or the TRANS-ID. [HTCP 5]
 abbrev pub query : Udp → ℕ → List ℕ → Message
 query udp.Icp serial key = icp op.Query serial key
 query udp.Htcp serial key = htcp serial (content.TstAsk true (get key))

@@ -117,7 +117,7 @@ ending s block = with_pending s (ended block s.pending)
 
 -- Copies
 
--- The age in seconds that the response came with, 0 if it bore none.
+-- The age in seconds that the response came with, 0 if it bore none. [Lifetime 4]
 abbrev pub age_of : {X : Type 0} → WebCopy X → ℕ
 age_of c = unwrap_or c.answer.age 0
 

@@ -22,7 +22,7 @@ pub record DeskView (S : Type 0) : Type 0 where
   pub pages : ℕ
   pub octets : ℕ
 
--- Another step can be entered.
+-- Another step can be entered. [Book 5]
 abbrev pub HasRoom : {S : Type 0} → ℕ → Option (Steps S) → Type 0
 HasRoom octets (Some (Recorded book)) = (octets < 4194304) × (length book.entries < book.filed + 4096)
 HasRoom octets (Some (Alone node)) = Unit {0}

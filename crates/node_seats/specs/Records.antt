@@ -11,7 +11,7 @@ use Rattle.node_seats.specs.declared.retention.Retention.TheVariants.{UpTo, Drop
 use Rattle.node_seats.specs.declared.steps.Steps.{Steps}
 use Rattle.node_seats.specs.declared.steps.Steps.TheVariants.{Recorded, Alone}
 
--- One page more is kept beside this many.
+-- One page more is kept beside this many. [Cluster 5]
 abbrev pub keeps : Retention → ℕ → Bool
 keeps (UpTo most) kept = nat_lt kept most
 keeps Dropped kept = false

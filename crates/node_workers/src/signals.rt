@@ -24,7 +24,7 @@ pub(crate) struct Signals {
     pub(crate) closing: Arc<Closing, Global>,
     /// How its peers answer.
     pub(crate) peers: Arc<PeerTable, Global>,
-    /// Whether a connection could not be accepted for want of a descriptor.
+    /// Whether a connection could not be accepted, or made for a fetch, for want of a descriptor.
     pub(crate) has_lacked: Arc<AtomicBool, Global>,
 }
 

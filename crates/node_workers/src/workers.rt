@@ -272,9 +272,9 @@ impl Workers {
         self.peers.dead(rt, alloc)
     }
 
-    /// What tells another thread that a connection could not be accepted for want of a descriptor:
-    /// true from then on, until that thread clears it. `AllocError` comes where one more owner
-    /// cannot be counted.
+    /// What tells another thread that a connection could not be accepted, or made for a fetch, for
+    /// want of a descriptor: true from then on, until that thread clears it. `AllocError` comes
+    /// where one more owner cannot be counted.
     pub fn has_lacked(&self) -> Result<Arc<AtomicBool, Global>, AllocError> {
         Arc::try_clone(&self.has_lacked)
     }

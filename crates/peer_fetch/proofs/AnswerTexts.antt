@@ -21,13 +21,13 @@ use Rattle.http_reading.specs.declared.framing.Framing.TheVariants.{Length}
 use Rattle.http_reading.specs.Fields.{first_of, only_of}
 use Rattle.http_reading.specs.Decimal.{number_up_to, plain_number}
 use Rattle.http_reading.specs.Framing.{framing, framing_told, coding_told, length_told}
-use Rattle.http_reading.specs.AnswerFields.{age, stamp}
+use Rattle.http_reading.specs.AnswerFields.{age, age_in, stamp}
 use Rattle.http_reading.specs.Kept.{kept}
 use Rattle.http_reading.specs.AnswerHead.{ToldText, parts_of, is_final, some_framing, framing_by, told}
 use Rattle.peer_fetch.specs.Writable.{IsWritableAnswer}
 use Rattle.peer_fetch.proofs.Pairs.{ArePlain, pair_line, field_of, fields_read}
 use Rattle.peer_fetch.proofs.Heads.{response_of, response_reads}
-use Rattle.peer_fetch.proofs.Decimals.{digits_all, value_back, plain_back, up_to_back, length_back, three_digits}
+use Rattle.peer_fetch.proofs.Decimals.{digits_all, value_back, plain_back, up_to_back, first_back, length_back, three_digits}
 use Rattle.peer_fetch.proofs.AskFields.{number_pairs, name_text}
 use Rattle.peer_fetch.proofs.AskTexts.{length-field_line, number_few, last_short}
 use Rattle.peer_fetch.proofs.AnswerFields.{pair_of, answer_pairs, answer_lines, answer_plain, IsPlainField, plain_fields, SaysOwn, pairs_say, kept_back}
@@ -192,9 +192,9 @@ framing_of a = cond (has_no_body a.status) None (Some (Length (length a.body)))
 abbrev pub told_of : AnswerText → ToldText
 told_of a = record { status = a.status; fields = a.fields; age = a.age; stamp = a.stamp; framing = framing_of a }
 
-age_back : (n : Option ℕ) → unwrap_or n 0 ≤ 2147483648 → option_and_then (number_up_to 2147483648) (first_of (option_to_list (option_map decimal n))) ≡ n
+age_back : (n : Option ℕ) → unwrap_or n 0 ≤ 2147483648 → option_and_then age_in (first_of (option_to_list (option_map decimal n))) ≡ n
 age_back None small = refl
-age_back (Some n) small = up_to_back 2147483648 n small (omega arith)
+age_back (Some n) small = ap (number_up_to 2147483648) (first_back n (omega arith)) ∙ up_to_back 2147483648 n small (omega arith)
 
 stamp_back : (n : Option ℕ) → unwrap_or n 0 ≤ 4294967295 → option_and_then (plain_number 0 4294967295) (only_of (option_to_list (option_map decimal n))) ≡ n
 stamp_back None small = refl
@@ -221,7 +221,7 @@ told_by a pairs p says kept_is =
     let framed_is : framing_by a.status 1 pairs ≡ Ok (framing_of a) =
     ap (λ f. cond (has_no_body a.status) (Ok None) (some_framing f)) coded ∙ framing_back (has_no_body a.status) (length a.body) p.short in
     let few : are_few_fields (kept pairs) ≡ true = ap are_few_fields kept_is ∙ p.few in
-    let ages : age pairs ≡ a.age = ap (λ vs. option_and_then (number_up_to 2147483648) (first_of vs)) says.ages ∙ age_back a.age p.age in
+    let ages : age pairs ≡ a.age = ap (λ vs. option_and_then age_in (first_of vs)) says.ages ∙ age_back a.age p.age in
     let stamps : stamp pairs ≡ a.stamp = ap (λ vs. option_and_then (plain_number 0 4294967295) (only_of vs)) says.stamps ∙ stamp_back a.stamp p.stamp in
     let made : told_made a.status (kept pairs) (age pairs) (stamp pairs) (framing_of a) ≡ told_made a.status a.fields a.age a.stamp (framing_of a) =
     ap (λ fs. told_made a.status fs (age pairs) (stamp pairs) (framing_of a)) kept_is

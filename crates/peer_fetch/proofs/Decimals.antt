@@ -1,14 +1,20 @@
 -- Numbers below 2^64 are read back as they were written: decimal digits without a leading zero.
-use Rattle.std.proofs.Common.{◌≡◌, ℕ, ◌+◌, ◌/◌, ◌%◌, ◌^◌, ◌<◌, ◌≤◌, true, false, min, List, [], ◌∷◌, ◌++◌, length, get_or, Some, Ok, refl, ap, ◌∙◌, inl, inr}
-use Rattle.std.proofs.Common.{arith, nat_lt, decimal, length-append, rules}
-use Rattle.std.specs.List.{list_all}
+use Rattle.std.proofs.Common.{◌≡◌, ℕ, ◌+◌, ◌-◌, ◌==◌, ◌/◌, ◌%◌, ◌^◌, ◌<◌, ◌≤◌, true, false, min, List, [], ◌∷◌, ◌++◌, length, get_or, Some, Ok, refl, ap, ◌∙◌, inl, inr}
+use Rattle.std.proofs.Common.{arith, nat_lt, decimal, length-append, rules, unwrap_or}
+use Rattle.std.specs.List.{list_all, suffix_len, onto_first}
 use Rattle.std.specs.Char.{is_ascii_digit}
 use Rattle.std.specs.Str.Parse.{digits_value}
 use Rattle.std.proofs.lemmas.Bool.{cases_lt, and_parts, and_from, le-leb, lt-ltb, ne_eqb}
 use Rattle.std.proofs.lemmas.Bool.Decides.{nat_tests}
 use Rattle.std.proofs.lemmas.Fmt.{decimal_is_IsNumeral, decimal_nonempty, first_decimal, decimal_digit, decimal_step, digits_decimal, length-decimal-le}
 use Rattle.std.proofs.lemmas.Str.Parse.{IsNumeralModel, numerals_by_value}
+use Rattle.std.proofs.lemmas.List.{take_all}
+use Rattle.std.proofs.lemmas.List.Sums.{AllPass-from_list_all, suffix_len_is}
 use Rattle.url_key.specs.Text.{is_visible}
+use Rattle.http_lists.specs.Members.{members_from, members, comma, double_quote}
+use Rattle.http_lists.specs.Blanks.{is_blank, trim, trim_front, trim_end}
+use Rattle.http_reading.specs.AnswerFields.{first_member}
+use Rattle.http_reading.specs.Fields.{first_of}
 use Rattle.http_reading.specs.Decimal.{is_digits, has_leading_zero, plain_number, number_up_to}
 use Rattle.http_reading.specs.Framing.{length_told}
 
@@ -62,6 +68,42 @@ length_back n fits =
     let small : n < 2 ^ 64 = omega arith in
     let few : length (decimal n) ≤ 5 = length-decimal-le 5 n (omega arith) (omega arith) small in
     rw (digits_is n small, le-leb (length (decimal n)) 19 (omega arith), value_back n small) refl
+
+-- Digits are a list of one member, which has no blanks around it
+
+digit_cuts : (b : ℕ) → is_ascii_digit b ≡ true → (b == comma) ≡ false
+digit_cuts b h = grind (arith, nat_tests)
+
+digit_quotes : (b : ℕ) → is_ascii_digit b ≡ true → (b == double_quote) ≡ false
+digit_quotes b h = grind (arith, nat_tests)
+
+digit_no_blank : (b : ℕ) → is_ascii_digit b ≡ true → is_blank b ≡ false
+digit_no_blank b h = grind (arith, nat_tests)
+
+digits_member : (text : List ℕ) → list_all is_ascii_digit text ≡ true → members text ≡ text ∷ []
+unfolding members_from
+digits_member [] digits = refl
+digits_member (b ∷ text) digits =
+    let parts = and_parts (is_ascii_digit b) (list_all is_ascii_digit text) digits in
+    rw (digit_cuts b parts.0, digit_quotes b parts.0, members_from) (ap (onto_first b) (digits_member text parts.1))
+
+trim_front_back : (text : List ℕ) → list_all is_ascii_digit text ≡ true → trim_front text ≡ text
+trim_front_back [] digits = refl
+trim_front_back (b ∷ text) digits = rw (digit_no_blank b (and_parts (is_ascii_digit b) (list_all is_ascii_digit text) digits).0) refl
+
+trim_end_back : (text : List ℕ) → list_all is_ascii_digit text ≡ true → trim_end text ≡ text
+trim_end_back text digits =
+    let each = AllPass-from_list_all is_ascii_digit text digits in
+    let none : suffix_len is_blank text ≡ length text - length text = suffix_len_is is_blank text (length text) 0 (omega arith) (λ k low high. absurd (omega arith))
+    (λ some. digit_no_blank (get_or text (length text - 1) 0) (each (length text - 1) 0 (omega arith))) in
+    take_all (length text - suffix_len is_blank text) text (omega arith)
+
+pub first_back : (n : ℕ) → n < 2 ^ 64 → first_member (decimal n) ≡ decimal n
+first_back n small =
+    let digits = digits_all n small in
+    ap (λ (parts : List (List ℕ)). trim (unwrap_or (first_of parts) [])) (digits_member (decimal n) digits)
+    ∙ ap trim_end (trim_front_back (decimal n) digits)
+    ∙ trim_end_back (decimal n) digits
 
 -- a status has three digits
 pub three_digits : (n : ℕ) → 100 ≤ n → n < 1000 → length (decimal n) ≡ 3

@@ -1,1 +1,2 @@
+-- `NewsLemmas`: what an acknowledgement changes, case by case.
 pub mod NewsLemmas

@@ -72,7 +72,7 @@ abbrev pub IsNodeFile : State → Type 0
 IsNodeFile file = IsFileOf IsFormOne file ⊎ IsFileOf IsFormTwo file
 
 -- what an open finds: no floors in a blank file without an open transaction; in a file of form 1 the
--- rows that were committed, and the base 0; in a file of form 2 the floors that were committed
+-- rows that were committed, and the base 0; in a file of form 2 the floors that were committed [File 2]
 abbrev pub OpensWith : State → FloorTable → Type 0
 OpensWith file floors = ((file.in_transaction ≡ false) × IsBlank file.now × (floors ≡ no_floors))
     ⊎ ((IsFileOf IsFormOne file × (floors ≡ record { rows = rows_of (file.committed.trees 1); base = 0 }))

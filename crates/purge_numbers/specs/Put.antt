@@ -76,7 +76,7 @@ module _ {S : Type 0} (g : Ghosts S) where
       ⊎ ((mid : Held S) × (count : ℕ) × ExecutesInside 0 text [] (state g old) (state g mid) (Ok count) × FailsAmong texts mid new e)
 
 module _ {S : Type 0} (g : Ghosts S) (old new : Held S) where
-  -- inside a transaction the rows were dropped and the base was set
+  -- inside a transaction the rows were dropped and the base was set [File 2]
   abbrev pub Rebases : ℕ → Type 0
   Rebases number =
       (mid : Held S) × (changed : ℕ) × RunsAll g clear_texts old mid

@@ -12,7 +12,7 @@
 //! | `open` of form 2 | one SELECT of the version, one of the base, one of all floors |
 //! | `raise` that changes nothing | none |
 //! | `raise` of a row | one INSERT with ON CONFLICT (SQLite, "UPSERT"), which commits by itself |
-//! | `raise` at a full table | DELETE of all floors and UPDATE of the base, in one transaction |
+//! | `raise` at a full table | DROP and CREATE of both tables, then UPDATE, in one transaction |
 //! | `raise_base` that changes nothing | none |
 //! | `raise_base` | UPDATE of the base, which commits by itself |
 //! | `load`, `failures`, `into_connection` | none |

@@ -76,7 +76,7 @@ abbrev pub IsMasterFile : State → Type 0
 IsMasterFile file = IsFileOf IsFormOne file ⊎ IsFileOf IsFormTwo file
 
 -- what an open finds: no purges in a blank file without an open transaction; in a file of form 1 the
--- purges that were committed, without admissions; in a file of form 2 all that was committed
+-- purges that were committed, without admissions; in a file of form 2 all that was committed [File 4]
 abbrev pub OpensWith : State → PurgeList → Type 0
 OpensWith file purges = ((file.in_transaction ≡ false) × IsBlank file.now × (purges ≡ no_purges))
     ⊎ ((IsFileOf IsFormOne file × (purges ≡ purges_of (file.committed.trees 1) (file.committed.trees 2) (file.committed.trees 3)))

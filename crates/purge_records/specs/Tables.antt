@@ -133,7 +133,7 @@ abbrev pub first_schema : Schema
 first_schema =
     record { tables = form_table ∷ last_table ∷ pending_table ∷ acks_table ∷ []; indexes = ack_index ∷ []; views = [] }
 
--- a master's file of form 2: these, `admitted` and its index
+-- a master's file of form 2: these, `admitted` and its index [File 3]
 abbrev pub master_schema : Schema
 master_schema = record {
   tables = form_table ∷ last_table ∷ pending_table ∷ acks_table ∷ admitted_table ∷ [];

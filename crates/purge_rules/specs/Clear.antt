@@ -23,7 +23,7 @@ clear_with number uri headers = record {
   content = content.ClrAsk true 0 record { method = codes "GET"; uri = uri; version = codes "HTTP/1.1"; request_headers = headers };
 }
 
--- the CLR of a purge of the key [Master 4]
+-- the CLR of a purge of the key [Master 4, HTCP 5]
 abbrev pub clear : ℕ → List ℕ → Htcp
 clear number key = clear_with number key (number_line number)
 

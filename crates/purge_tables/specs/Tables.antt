@@ -12,7 +12,7 @@ use Rattle.sqlite_sql.specs.declared.ops.BinaryOp.TheVariants.{Compare, And, Or}
 use Rattle.sqlite_sql.specs.declared.ops.CompareOp.{CompareOp}
 use Rattle.sqlite_sql.specs.declared.ops.CompareOp.TheVariants.{Eq, Ge, Le}
 
--- `form`, for the version: CREATE TABLE form (version INTEGER PRIMARY KEY) STRICT
+-- `form`, for the version: CREATE TABLE form (version INTEGER PRIMARY KEY) STRICT [File 1]
 abbrev pub form_table : Table
 form_table = record {
   name = codes "form";

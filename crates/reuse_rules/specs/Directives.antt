@@ -6,7 +6,7 @@ use Rattle.std.specs.Str.Parse.{digits_value}
 use Rattle.http_messages.specs.Field.{FieldText}
 use Rattle.http_messages.specs.Answer.{AnswerText}
 use Rattle.reuse_rules.specs.declared.directive.Directive.{Directive}
-use Rattle.http_lists.specs.Cut.{is_closed}
+use Rattle.http_lists.specs.Cut.{is_well_quoted}
 use Rattle.http_lists.specs.Members.{members, double_quote}
 use Rattle.http_lists.specs.Blanks.{trim}
 
@@ -24,7 +24,7 @@ abbrev pub is_equals_sign : ℕ → Bool
 is_equals_sign octet = octet == 61
 
 -- the directive of a member: a name and, after the first `=`, a value, without the blanks around
--- both
+-- both [Directive 2]
 abbrev pub directive_of : List ℕ → DirectiveText
 directive_of member = record {
   name = trim (before_first is_equals_sign member);
@@ -40,10 +40,11 @@ directives_of_field f = if bytes_eq f.name (codes "cache-control") then map dire
 abbrev pub directives : AnswerText → List DirectiveText
 directives a = flat_map directives_of_field a.fields
 
--- The field is a `cache-control` field with a quoted string that nothing closes (RFC 9110, section
--- 5.6.4). A directive that stands behind the quote counts for nothing.
-abbrev pub is_left_open : FieldText → Bool
-is_left_open f = bytes_eq f.name (codes "cache-control") && not (is_closed f.value)
+-- The field is a `cache-control` field with a quoted string that nothing closes, or that begins
+-- where none may (RFC 9110, sections 5.6.4 and 5.6.6). A directive that stands behind the quote
+-- counts for nothing.
+abbrev pub is_ill_quoted : FieldText → Bool
+is_ill_quoted f = bytes_eq f.name (codes "cache-control") && not (is_well_quoted f.value)
 
 -- the directive has this name, ignoring case
 abbrev pub is_called : List ℕ → DirectiveText → Bool

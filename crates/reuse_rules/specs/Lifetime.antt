@@ -3,7 +3,7 @@
 use Rattle.std.specs.Prelude.{ℕ, Bool, not, ◌||◌, ◌==◌, bytes_eq, List, [], ◌∷◌, codes, find, Option, Some, None, option_map, if◌then◌else◌}
 use Rattle.std.specs.List.{list_any}
 use Rattle.http_messages.specs.Answer.{AnswerText}
-use Rattle.reuse_rules.specs.Directives.{DirectiveText, directives, is_left_open, is_called, seconds}
+use Rattle.reuse_rules.specs.Directives.{DirectiveText, directives, is_ill_quoted, is_called, seconds}
 
 -- responses with this status are stored: six of those that are heuristically cacheable (RFC 9110,
 -- section 15.1)
@@ -20,9 +20,10 @@ has_field name a = list_any (λ f. bytes_eq f.name name) a.fields
 abbrev pub forbids_storing : DirectiveText → Bool
 forbids_storing d = is_called (codes "no-store") d || is_called (codes "private") d || is_called (codes "no-cache") d
 
--- a quoted string in a `cache-control` field is left open, and may hide such a directive
+-- a quoted string in a `cache-control` field is left open or begins where none may, and may hide
+-- such a directive
 abbrev pub hides_directives : AnswerText → Bool
-hides_directives a = list_any is_left_open a.fields
+hides_directives a = list_any is_ill_quoted a.fields
 
 -- the response is not stored, whatever its lifetime; `vary` forbids it, as copies are found by
 -- their key alone (section 4.1) [Lifetime 1]

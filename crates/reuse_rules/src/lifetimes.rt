@@ -1,11 +1,12 @@
 ghost use Rattle.std.specs.Prelude.{◌≡◌, bytes_eq, codes, Some, None, find, option_map};
 ghost use Rattle.std.specs.List.{list_any};
 ghost use Rattle.http_messages.specs.Field.{field_text};
-ghost use Rattle.reuse_rules.specs.Directives.{directives, directive_text, is_called, is_left_open};
+ghost use Rattle.reuse_rules.specs.Directives.{directives, directive_text, is_called};
+ghost use Rattle.reuse_rules.specs.Directives.{is_ill_quoted as is_ill_quoted_field};
 ghost use Rattle.reuse_rules.specs.Lifetime as spec;
 
 use crate::directive::{Directive, directives_of};
-use http_lists::is_closed;
+use http_lists::is_well_quoted;
 use http_messages::{Answer, Field};
 
 /// The freshness lifetime of a response in seconds, above 0 (RFC 9111, section 4.2.1). `None`: it
@@ -18,8 +19,8 @@ use http_messages::{Answer, Field};
 /// - with a `vary` field (RFC 9111, section 4.1);
 /// - with a `cache-control` directive `no-store`, `private` or `no-cache`, with or without a value
 ///   (sections 5.2.2.4, 5.2.2.5 and 5.2.2.7);
-/// - with a `cache-control` field in which a quoted string is not closed, since such a directive
-///   may stand behind the quote.
+/// - with a `cache-control` field in which a quoted string is not closed, or begins elsewhere than
+///   at the start of a directive or of a value, since such a directive may stand behind the quote.
 ///
 /// Else the lifetime is the value of the first `s-maxage` (section 5.2.2.10), else that of the
 /// first `max-age` (5.2.2.1). Without either, a response with an `expires` field is not stored
@@ -50,26 +51,26 @@ fn is_kept_out(answer: &Answer) -> bool
         || has_forbidding(answer)
 }
 
-/// Whether a quoted string in a `cache-control` field is left open. A directive behind the quote is
-/// not read.
+/// Whether a quoted string in a `cache-control` field is left open or begins where none may. A
+/// directive behind the quote is not read.
 fn hides_directives(answer: &Answer) -> bool
     ensures { result ≡ spec.hides_directives answer.now }
 {
-    is_one_left_open(answer.fields())
+    is_one_ill_quoted(answer.fields())
 }
 
-/// Whether one of the fields is a `cache-control` field with a quoted string that is left open.
-fn is_one_left_open(fields: &[Field]) -> bool
-    ensures { result ≡ list_any (λ field. is_left_open (field_text field)) fields.now }
+/// Whether one of the fields is a `cache-control` field with such a quoted string.
+fn is_one_ill_quoted(fields: &[Field]) -> bool
+    ensures { result ≡ list_any (λ field. is_ill_quoted_field (field_text field)) fields.now }
 {
-    fields.iter().any(|field| is_open_list(field))
+    fields.iter().any(|field| is_ill_quoted(field))
 }
 
-/// Whether the field is a `cache-control` field with a quoted string that is left open.
-fn is_open_list(field: &Field) -> bool
-    ensures { result ≡ is_left_open (field_text field.now) }
+/// Whether the field is a `cache-control` field with such a quoted string.
+fn is_ill_quoted(field: &Field) -> bool
+    ensures { result ≡ is_ill_quoted_field (field_text field.now) }
 {
-    field.name.as_str() == "cache-control" && !is_closed(field.value.as_bytes())
+    field.name.as_str() == "cache-control" && !is_well_quoted(field.value.as_bytes())
 }
 
 /// Whether a directive of the response forbids storing it here.

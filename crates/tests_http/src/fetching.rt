@@ -119,13 +119,73 @@ fn answer_fault(alloc: Global, text: &[u8], length: usize) -> Option<FetchFault>
     read_answer(alloc, &mut Pieces::new(text, length, false)).err()
 }
 
-/// A text that is cut anywhere is not read as another message.
+/// Requests that are cut: the last three are refused once they are whole.
+const CUT_ASKS: [&[u8]; 4] = [
+    b"GET http://o/a HTTP/1.1\r\nHost: o\r\n\r\n",
+    b"POST http://o/a HTTP/1.1\r\nHost: o\r\n\r\n",
+    b"GET http://o/a HTTP/1.1\r\nHost: o\r\nAuthorization: x\r\n\r\n",
+    b"GET http://o/a HTTP/1.1\r\nHost: o\r\nHost: o\r\n\r\n",
+];
+
+/// Responses that are cut.
+const CUT_ANSWERS: [&[u8]; 3] = [
+    b"HTTP/1.1 200 \r\ntransfer-encoding: chunked\r\n\r\n3\r\none\r\n0\r\n\r\n",
+    b"HTTP/1.1 200 \r\ncontent-length: 3\r\n\r\none",
+    b"HTTP/1.1 103 \r\n\r\nHTTP/1.1 204 \r\n\r\n",
+];
+
+/// The fault of a text that ends here, and that of one whose next read fails.
+fn ask_faults(alloc: Global, text: &[u8]) -> [Option<FetchFault>; 2] {
+    [false, true].map(|fails| read_ask(alloc, &mut Pieces::new(text, 7, fails)).err())
+}
+
+/// The same of a response.
+fn answer_faults(alloc: Global, text: &[u8]) -> [Option<FetchFault>; 2] {
+    [false, true].map(|fails| read_answer(alloc, &mut Pieces::new(text, 7, fails)).err())
+}
+
+/// The faults of a text that is cut.
+const CUT: [Option<FetchFault>; 2] = [Some(FetchFault::EndOfInput), Some(FetchFault::Io)];
+
+/// A text that is cut anywhere is not read as another message, and a read that fails anywhere is
+/// told.
+#[test]
+fn cut_asks_are_refused(rt: HostRuntime) {
+    for text in &CUT_ASKS {
+        for end in 0..text.len() {
+            let faults = ask_faults(rt.alloc(), &text[..end]);
+            assert!(rt; faults == CUT, "{text:?} up to {end}");
+        }
+    }
+}
+
+#[test]
+fn cut_answers_are_refused(rt: HostRuntime) {
+    for text in &CUT_ANSWERS {
+        for end in 0..text.len() {
+            let faults = answer_faults(rt.alloc(), &text[..end]);
+            assert!(rt; faults == CUT, "{text:?} up to {end}");
+        }
+    }
+}
+
+/// A written text that is cut anywhere.
 #[test]
 fn cut_texts_are_refused(rt: HostRuntime) {
     assert!(rt; is_name(b"n1"));
     let text = written_answer(&rt, &(200, &[], Some(1), None, b"one"), b"");
     for end in 0..text.len() {
-        let fault = answer_fault(rt.alloc(), &text[..end], 7);
+        let faults = answer_faults(rt.alloc(), &text[..end]);
+        assert!(rt; faults == CUT, "{end}");
+    }
+}
+
+/// The longest body, cut at each octet.
+#[test]
+fn a_long_body_that_is_cut_is_refused(rt: HostRuntime) {
+    let text = long_answer(&rt, 1);
+    for end in 0..text.len() {
+        let fault = answer_fault(rt.alloc(), &text[..end], usize::MAX);
         assert!(rt; fault == Some(FetchFault::EndOfInput), "{end}");
     }
 }

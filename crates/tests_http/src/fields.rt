@@ -331,7 +331,7 @@ const DIRECTIVES: [Row; 12] = [
 ];
 
 /// The age of an answer.
-const AGES: [Row; 12] = [
+const AGES: [Row; 17] = [
     (b"\r\n", Saying::Age(None)),
     (b"Age: 60\r\n\r\n", Saying::Age(Some(60))),
     (b"age: 007\r\n\r\n", Saying::Age(Some(7))),
@@ -347,6 +347,11 @@ const AGES: [Row; 12] = [
     (b"age: -1\r\n\r\n", Saying::Age(None)),
     (b"age: 5\r\nage: 9\r\n\r\n", Saying::Age(Some(5))),
     (b"age: x\r\nage: 9\r\n\r\n", Saying::Age(None)),
+    (b"age: 100, 5\r\n\r\n", Saying::Age(Some(100))),
+    (b"age: 7\t,x\r\n\r\n", Saying::Age(Some(7))),
+    (b"age: 5,6\r\nage: 9\r\n\r\n", Saying::Age(Some(5))),
+    (b"age: x, 5\r\n\r\n", Saying::Age(None)),
+    (b"age: , 5\r\n\r\n", Saying::Age(None)),
 ];
 
 /// The stamp of an answer.

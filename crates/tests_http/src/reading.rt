@@ -67,7 +67,7 @@ const FAULTS_OF_ASKS: [(&[u8], FetchFault); 16] = [
 
 /// Values of a `host` field, and whether a request for a path may have it: it is an authority (RFC
 /// 9110, section 7.2).
-const HOSTS: [(&[u8], bool); 36] = [
+const HOSTS: [(&[u8], bool); 44] = [
     (b"o", true),
     (b"O:80", true),
     (b"o:", true),
@@ -78,6 +78,8 @@ const HOSTS: [(&[u8], bool); 36] = [
     (b"[::1]", true),
     (b"[::1]:81", true),
     (b"[v1.a:b]", true),
+    (b"[VfF.~]", true),
+    (b"[::ffff:1.2.3.4]", true),
     // A name may be empty, and may have encoded octets. No http URL has such a host.
     (b"", true),
     (b"o%41", true),
@@ -104,6 +106,12 @@ const HOSTS: [(&[u8], bool); 36] = [
     (b"o:80:80", false),
     (b"[::1", false),
     (b"[]", false),
+    (b"[zz]", false),
+    (b"[::g]", false),
+    (b"[1.2.3.4]", false),
+    (b"[v1.]", false),
+    (b"[v.a]", false),
+    (b"[vg.a]", false),
     (b"[::1]x", false),
     (b"a[b]", false),
 ];

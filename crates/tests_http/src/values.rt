@@ -1,4 +1,4 @@
-use http_lists::{is_closed, member_length, members_are_exact, members_of, trim};
+use http_lists::{is_well_quoted, member_length, members_are_exact, members_of, trim};
 use std::process::Abort;
 
 /// Values, and their members with a bar behind each (RFC 9110, sections 5.6.1 and 5.6.4).
@@ -33,8 +33,9 @@ fn how_values_are_cut(rt: HostRuntime) {
     members_are_exact();
 }
 
-/// Values, and whether each of their quoted strings is closed (RFC 9110, section 5.6.4).
-const QUOTED: [(&[u8], bool); 9] = [
+/// Values, and whether each of their quoted strings is closed, and begins where one may (RFC 9110,
+/// sections 5.6.4 and 5.6.6).
+const QUOTED: [(&[u8], bool); 17] = [
     (b"", true),
     (b"a, b", true),
     (b"a=\"b, c\"", true),
@@ -44,12 +45,20 @@ const QUOTED: [(&[u8], bool); 9] = [
     (b"\"a\", \"b", false),
     (b"\"a\\\"", false),
     (b"\\\"", false),
+    (b" \"a\",\t\"b\"", true),
+    (b"a = \"b\";\"c\"", true),
+    (b"\"a=\\\"b\"", true),
+    (b"a\"b, no-store, c\"d", false),
+    (b"a \"b, no-store, c\"", false),
+    (b"\"a\"\"b\"", false),
+    (b"\"a\" \"b\"", false),
+    (b"\\\"a\"", false),
 ];
 
 #[test]
-fn which_values_are_closed(rt: HostRuntime) {
-    for (value, closed) in &QUOTED {
-        assert!(rt; is_closed(value) == *closed, "{value:?}");
+fn which_values_are_well_quoted(rt: HostRuntime) {
+    for (value, well) in &QUOTED {
+        assert!(rt; is_well_quoted(value) == *well, "{value:?}");
     }
 }
 

@@ -104,21 +104,27 @@ const MESSAGES: [(Message, &[u8]); 14] = [
 /// The answer that is served.
 const SERVED: Parts<'static> = (200, &[(b"x", b"y")], Some(7), Some(9), b"one");
 
+/// Writes a message to a writer.
+fn write_to(
+    rt: &(impl Abort + AllocGlobal),
+    writer: &mut Narrow,
+    message: &Message,
+) -> Result<(), FetchFault> {
+    match message {
+        Message::Ask(url, form, flags) => write_ask(writer, &ask_of(rt, url, flags), *form, b"n1"),
+        Message::Answer(parts) => write_answer(writer, &answer_of(rt, parts), b"n1"),
+        Message::Served(age, stamp) => {
+            write_served(writer, &answer_of(rt, &SERVED), *age, *stamp, b"n1")
+        }
+        Message::Status(status) => write_status(writer, *status, b"n1"),
+    }
+}
+
 /// The text of a message.
 fn written(rt: &(impl Abort + AllocGlobal), message: &Message) -> Vec<u8> {
-    let mut text = Vec::new(rt.alloc());
-    let result = match message {
-        Message::Ask(url, form, flags) => {
-            write_ask(&mut text, &ask_of(rt, url, flags), *form, b"n1")
-        }
-        Message::Answer(parts) => write_answer(&mut text, &answer_of(rt, parts), b"n1"),
-        Message::Served(age, stamp) => {
-            write_served(&mut text, &answer_of(rt, &SERVED), *age, *stamp, b"n1")
-        }
-        Message::Status(status) => write_status(&mut text, *status, b"n1"),
-    };
-    result.expect(rt, "a text");
-    text
+    let mut writer = Narrow::new(rt.alloc(), usize::MAX);
+    write_to(rt, &mut writer, message).expect(rt, "a text");
+    writer.taken
 }
 
 #[test]
@@ -129,26 +135,29 @@ fn messages(rt: HostRuntime) {
     }
 }
 
-const ONE: &[u8] =
-    b"HTTP/1.1 200 \r\nage: 1\r\ncontent-length: 3\r\nconnection: close\r\nvia: 1.1 n1\r\n\r\none";
-
-/// Whether a writer with room for so many octets holds the front of an answer, and all of it is
+/// Whether a writer with room for so many octets holds the front of a message, and all of it is
 /// written only where there is room.
-fn holds_front(rt: &(impl Abort + AllocGlobal), room: usize) -> bool {
+fn holds_front(
+    rt: &(impl Abort + AllocGlobal),
+    message: &Message,
+    text: &[u8],
+    room: usize,
+) -> bool {
     let mut writer = Narrow::new(rt.alloc(), room);
-    let answer = answer_of(rt, &(200, &[], Some(1), None, b"one"));
-    let expected = if room < ONE.len() {
+    let expected = if room < text.len() {
         Err(FetchFault::Io)
     } else {
         Ok(())
     };
-    let result = write_answer(&mut writer, &answer, b"n1");
-    result == expected && ONE.get(..room) == Some(writer.taken.as_slice())
+    let result = write_to(rt, &mut writer, message);
+    result == expected && text.get(..room) == Some(writer.taken.as_slice())
 }
 
 #[test]
 fn a_writer_that_fails_holds_a_front(rt: HostRuntime) {
-    for room in 0..ONE.len() + 1 {
-        assert!(rt; holds_front(&rt, room), "{room}");
+    for (at, (message, text)) in MESSAGES.iter().enumerate() {
+        for room in 0..text.len() + 1 {
+            assert!(rt; holds_front(&rt, message, text, room), "row {at}, {room}");
+        }
     }
 }

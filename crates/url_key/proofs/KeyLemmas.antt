@@ -176,6 +176,7 @@ module _ (text key : List ℕ) (u : Uri) (early : Early text) (spells : Spells t
       let short = n.short in
       (omega arith, omega arith)
 
+  -- The text is cut where the old one was, with a lower-case authority, and it is short enough.
   new_spells : Spells new_text new_uri
   new_spells =
       let w_short = lengths.0 in

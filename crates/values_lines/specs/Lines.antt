@@ -12,7 +12,7 @@ abbrev pub in_first : ℕ → List (List ℕ) → List (List ℕ)
 in_first octet [] = (octet ∷ []) ∷ []
 in_first octet (line ∷ lines) = (octet ∷ line) ∷ lines
 
--- what is before each LF, and what follows the last one unless it is empty
+-- what is before each LF, and what follows the last one unless it is empty [Script 1]
 abbrev pub lines_of : List ℕ → List (List ℕ)
 lines_of [] = []
 lines_of (octet ∷ octets) = if octet == newline then [] ∷ lines_of octets else in_first octet (lines_of octets)

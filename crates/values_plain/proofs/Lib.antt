@@ -1,1 +1,2 @@
+-- `Laws`: texts that are written one after another.
 pub mod Laws

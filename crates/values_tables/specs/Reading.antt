@@ -83,7 +83,7 @@ ip_in (Some (octets, _ ∷ _)) = None
 ip_in None = None
 
 -- the IPv4 address of a text: four decimal numbers of 0 to 255 without leading zeros, with dots
--- between them (RFC 3986, section 3.2.2: IPv4address)
+-- between them (RFC 3986, section 3.2.2: IPv4address) [Roster 5]
 abbrev pub ip_of : List ℕ → Option ℕ
 ip_of text = ip_in (read_ipv4 text)
 
@@ -148,7 +148,7 @@ list_in f None = Some []
 list_in f (Some (array ds)) = all_of f ds
 list_in f (Some _) = None
 
--- the member that a `[[node]]` table says
+-- the member that a `[[node]]` table says [Roster 6]
 abbrev pub member_of : Data → Option Member
 member_of d = do
   ms ← table_in kind.Node (Some d)
@@ -179,7 +179,7 @@ master_of d = do
   htcp ← port (codes "htcp") ms
   Some (record { ip = address; port = htcp })
 
--- the limits, which the keys at the top say
+-- the limits, which the keys at the top say [Roster 6]
 abbrev pub limits_of : Members → Option Limits
 limits_of ms = do
   default_lifetime ← number 0 2147483648 (codes "default_lifetime") ms
@@ -207,7 +207,7 @@ limits_of ms = do
 abbrev pub members_of : Members → Option (List Member)
 members_of ms = list_in member_of (get_member (codes "node") ms) >>= checked has_founding
 
--- what a document says, None if a field is bad
+-- what a document says, None if a field is bad [Roster 4]
 abbrev pub tables_of : Members → Option Tables
 tables_of ms = do
   top ← checked (has_only (keys_of kind.Top)) ms

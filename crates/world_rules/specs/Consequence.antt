@@ -59,7 +59,7 @@ pub data Consequence : Type 0 where
   NodeSteps : (id : ℕ) (e : Event ℕ) (serial : ℕ) → Consequence
   -- no node steps; this is what is seen, and the world afterwards
   Ends : (seen : Seen) (world : World) → Consequence
-  -- the event names something that does not exist, or nothing that is pending
+  -- the event names something that does not exist, or nothing that is pending [Script 8]
   Refused : (fault : WorldFault) → Consequence
 
 -- this consequence if the id is a member's, else the event is refused

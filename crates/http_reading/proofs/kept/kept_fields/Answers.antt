@@ -41,6 +41,7 @@ loop-header-init c =
       held = c.in_ok-fields.ensures.held;
     }
 
+-- A field that is kept is added, trimmed; another is passed over. Either way what is left to keep is that of the later fields.
 pub loop-header-preserved : goal.loop-header-preserved
 unfolding nowhere
 loop-header-preserved c =

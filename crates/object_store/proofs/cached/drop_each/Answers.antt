@@ -18,6 +18,7 @@ overflow_sub-left g c =
     let found : copy_of key copies ≡ Some c.in-Some.copy = sym (found_in key c.loop-key.cache.entries inv.cached.keyed) ∙ sym c.in-Some.ensures.value in
     omega (arith, octets_out key copies c.in-Some.copy inv.one_each found, inv.counted, c.size-left.ensures.value)
 
+-- One key is taken out: the copies without it are left, and their octets are those before less those of its copy.
 pub loop-key-preserved : goal.loop-key-preserved
 loop-key-preserved g c =
     let inv = c.loop-key.invariant in

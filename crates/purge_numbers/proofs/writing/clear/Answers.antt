@@ -76,6 +76,7 @@ returns-in_err-create_base-clause-failed g c = err_then c.from_residual-in_err-c
       inr (c.drop_base.new.tx.conn.now, _, run-1, inr (c.create_floors.new.tx.conn.now, _, run-2, inl (c.in_err-create_base.ensures.runs clean on-2))),
     ))
 
+-- The first three statements ran inside the transaction, and the last one failed: a failure among the four.
 pub returns-in_err-start_base-clause-failed : goal.returns-in_err-start_base-clause-failed
 returns-in_err-start_base-clause-failed g c = err_then c.from_residual-in_err-start_base.result c.in_err-start_base.field-0.0
     (λ e. HasCleanDisk (state g.S.Store c.start_base.new.tx.conn.now) → IsTrue c.args.tx.now.conn.now.in_transaction →
@@ -109,6 +110,7 @@ returns-in_err-start_base-clause-failed g c = err_then c.from_residual-in_err-st
       ),
     ))
 
+-- Each of the four statements ran inside the transaction, on what the one before it left.
 pub returns-clause-ran : goal.returns-clause-ran
 returns-clause-ran g c clean on =
     let run-0 = c.in_ok-drop_floors.ensures.runs

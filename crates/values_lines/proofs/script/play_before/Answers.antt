@@ -80,6 +80,7 @@ returns-in-Err-answer_line g c =
     playing_stops answers last start c.lines.script input held rest first writer writer text NoMemory c.answer_line.new.script c.lines.invariant.playing
     (nothing_written answers last start writer text) (other_fault answers last start held rest NoMemory (λ e. cc)) (not_spent input NoMemory (λ e. cc))
 
+-- The line was taken and answered, and the writer failed: playing stops there with Io.
 pub returns-in-Err-write_text : goal.returns-in-Err-write_text
 returns-in-Err-write_text g c =
     let answers = g.S.Script.answers in
@@ -106,6 +107,7 @@ returns-in-Err-write_text g c =
     (other_fault answers last start left after c.in-Err-write_text.fault (λ e. let bad : Io ≡ LineTooLong = sym c.in-Err-write_text.ensures.fault ∙ e in
     cc)) (not_spent input c.in-Err-write_text.fault (λ e. let bad : Io ≡ TooManyTurns = sym c.in-Err-write_text.ensures.fault ∙ e in cc))
 
+-- No write is due, so the answer waits in the text, and the lines that are left begin behind this line.
 pub lines-preserved : goal.lines-preserved
 lines-preserved g c =
     let answers = g.S.Script.answers in
@@ -130,6 +132,7 @@ lines-preserved g c =
       counted = counted_then 0 c.lines.source.turns c.next_line.new.self.turns input rest after c.lines.invariant.counted c.in-Ok-true.ensures.counted;
     }
 
+-- The text was written whole and is empty again, and the lines that are left begin behind this line.
 pub lines-preserved-in-Ok-write_text : goal.lines-preserved-in-Ok-write_text
 lines-preserved-in-Ok-write_text g c =
     let answers = g.S.Script.answers in

@@ -9,6 +9,7 @@ use Rattle.hierarchy_world.proofs.Changing.{was_member_node}
 use Rattle.hierarchy_world.proofs.Restarting.{then_forgets, state_sound, state_by, closing_stored}
 use Rattle.hierarchy_world.proofs.parts.Parts.close_at.Goals as goal
 
+-- The node closes by its rule and its requests are forgotten, so one member changed and the parts stay sound.
 pub returns : goal.returns
 returns c =
     let old : Parts = c.args.self.now in

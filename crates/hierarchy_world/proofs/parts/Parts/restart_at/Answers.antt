@@ -10,6 +10,7 @@ use Rattle.hierarchy_world.proofs.Changing.{was_id, was_member_node, put_back}
 use Rattle.hierarchy_world.proofs.Restarting.{then_forgets, state_sound, state_by}
 use Rattle.hierarchy_world.proofs.parts.Parts.restart_at.Goals as goal
 
+-- The new node is put back in the place of the old one, with its floors, so one member changed and the parts stay sound.
 pub returns : goal.returns
 returns c =
     let old : Parts = c.args.self.now in

@@ -10,6 +10,7 @@ use Rattle.hierarchy_world.specs.Parts.{IsStep, HasStepped, IsMemberChanged}
 use Rattle.hierarchy_world.proofs.Taking.{has_stepped}
 use Rattle.hierarchy_world.proofs.parts.Parts.step_at.Goals as goal
 
+-- The step is the node's, what it sends is posted and what it tells is told, so the world takes this event.
 pub returns-clause-stepped : goal.returns-clause-stepped
 returns-clause-stepped c =
     let old : Parts = c.args.self.now in

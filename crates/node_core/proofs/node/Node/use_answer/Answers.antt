@@ -13,6 +13,7 @@ use Rattle.node_core.proofs.node.Node.use_answer.Goals as goal
 pub invariant_of-self : goal.invariant_of-self
 invariant_of-self g c = (rw c.end-ask.ensures.rest (ended_node _ c.self-2.invariant.0), c.self-2.invariant.1)
 
+-- The request is found and ended, then its response is used: the rule of a response for the state that it was found in.
 pub returns-clause-leads : goal.returns-clause-leads
 returns-clause-leads g c = λ key_of.
     let ask = c.ask.result.now in

@@ -10,6 +10,7 @@ use Rattle.run_check.specs.Boards.{posts_of, AreMemberNodes}
 use Rattle.run_check.proofs.Boards.{has_stepped, may_not_step}
 use Rattle.run_check.proofs.board.Board.steps.Goals as goal
 
+-- What the step received was sent before, the replay gives its outcome, and what it sends is noted: the board of the next step.
 pub returns-in_ok-put-in-Ok : goal.returns-in_ok-put-in-Ok
 returns-in_ok-put-in-Ok c = λ sent board.
     let roster = c.args.roster.now in

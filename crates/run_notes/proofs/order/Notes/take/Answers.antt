@@ -38,6 +38,7 @@ returns-in_err-note c =
     absurd (empty_fails rank (tracks_in items) at place (got_mapped (λ (t : Vec Held). track_of t.items) items at track got
     ∙ ap (λ (l : List Held). Some (track_of l)) empty))
 
+-- The least rank is found, then the first track whose front has it, and this front is taken: the next note in order.
 pub returns : goal.returns
 returns c =
     let items = c.args.self.now.tracks.items in
