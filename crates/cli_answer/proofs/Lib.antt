@@ -1,3 +1,2 @@
--- The files stand alone: read them in any order.
+-- The file stands alone.
 pub mod Outcomes
-pub mod Silence

@@ -1,5 +1,5 @@
 -- What `cache answer` answers to a line: a node places a copy by hand, or takes a step with a datagram.
-use Rattle.std.specs.Prelude.{◌≡◌, ◌≢◌, ℕ, ◌^◌, ◌⊎◌, Bool, true, false, bytes_eq, List, [], ◌∷◌, flat_map, codes, Option, Some, None, Result, Ok, Err}
+use Rattle.std.specs.Prelude.{◌≡◌, ℕ, ◌^◌, ◌⊎◌, Bool, true, false, bytes_eq, List, [], ◌∷◌, flat_map, codes, Option, Some, None, Result, Ok, Err}
 use Rattle.std.specs.Prelude.{if◌then◌else◌}
 use Rattle.hex.specs.Hex.{decode_of, encode_lower}
 use Rattle.hex.specs.declared.error.FromHexError.{FromHexError}
@@ -7,11 +7,9 @@ use Rattle.url_key.specs.declared.fault.KeyFault.{KeyFault}
 use Rattle.url_key.specs.Fault.{key_fault_name}
 use Rattle.url_key.specs.Key.{HasKey}
 use Rattle.icp_wire.specs.declared.fault.IcpFault.{IcpFault}
-use Rattle.icp_wire.specs.declared.fault.IcpFault.TheVariants as icp_fault
 use Rattle.icp_wire.specs.Names.{icp_fault_name}
 use Rattle.icp_wire.specs.Faults as icp_faults
 use Rattle.htcp_wire.specs.declared.fault.HtcpFault.{HtcpFault}
-use Rattle.htcp_wire.specs.declared.fault.HtcpFault.TheVariants as htcp_fault
 use Rattle.htcp_wire.specs.Names.{htcp_fault_name}
 use Rattle.htcp_wire.specs.Faults as htcp_faults
 use Rattle.floor_rules.specs.Floors.{FloorTable, no_floors}
@@ -36,7 +34,6 @@ use Rattle.node_core.specs.Placed.{placed_as, with_placed}
 use Rattle.values_keys.specs.KeyOf.{GivesKeys}
 use Rattle.node_core.specs.View.{NodeText, IsSameMember, setting_of}
 use Rattle.node_bytes.specs.Bytes.{text_of, SpellsBy}
-use Rattle.node_bytes.specs.declared.turns.Packet.{Packet}
 use Rattle.cli_answer.specs.declared.first.TheConstants.{ROSTER}
 use Rattle.cli_answer.specs.declared.answer.Line.{Line}
 use Rattle.cli_answer.specs.declared.answer.Line.TheVariants as lines
@@ -158,10 +155,6 @@ PlaceAnswers node (Ok key) stamp text next = PlacesIf node.state.closed node key
 abbrev pub sent_hex : Outgoing → List ℕ
 sent_hex sent = encode_lower (text_of sent.message)
 
--- the same as it is sent
-abbrev pub packet_hex : Packet → List ℕ
-packet_hex packet = encode_lower packet.octets
-
 -- what is sent, one datagram after another in hex, or `nothing`
 abbrev pub sent_text : List Outgoing → List ℕ
 sent_text [] = codes "nothing"
@@ -187,22 +180,6 @@ HasFaultNamed udp.Icp octets text = (fault : IcpFault) × (icp_faults.first_faul
     × (text ≡ icp_fault_name fault)
 HasFaultNamed udp.Htcp octets text = (fault : HtcpFault) × (htcp_faults.first_fault octets ≡ Some fault)
     × (text ≡ htcp_fault_name fault)
-
--- the first fault of octets by a codec, memory aside, or none where they spell a message
-
--- the first fault of octets as an ICP message, memory aside; or none, where they spell a message
-abbrev pub IsIcpFault : List ℕ → Option IcpFault → Type 0
-IsIcpFault octets None = (message : Message) × SpellsBy udp.Icp octets message
-IsIcpFault octets (Some fault) = fault ≢ icp_fault.NoMemory → icp_faults.first_fault octets ≡ Some fault
-
--- the first fault of octets as an HTCP message, memory aside; or none, where they spell a message
-abbrev pub IsHtcpFault : List ℕ → Option HtcpFault → Type 0
-IsHtcpFault octets None = (message : Message) × SpellsBy udp.Htcp octets message
-IsHtcpFault octets (Some fault) = fault ≢ htcp_fault.NoMemory → htcp_faults.first_fault octets ≡ Some fault
-
--- nothing is sent: the answer is the first fault of the octets, or `nothing` where they spell a message
-abbrev pub IsSilence : Udp → List ℕ → List ℕ → Type 0
-IsSilence by octets text = HasFaultNamed by octets text ⊎ ((message : Message) × SpellsBy by octets message × (text ≡ codes "nothing"))
 
 -- the answer to a datagram: its first fault, or that of the step with the message that it spells, at second 0
 abbrev pub OctetsAnswer : Answering → Udp → Address → List ℕ → List ℕ → Answering → Type 0

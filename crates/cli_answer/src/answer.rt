@@ -1,10 +1,12 @@
 //! The lines of `cache answer`, and their answers.
-ghost use Rattle.std.specs.Prelude.{◌≡◌, ℕ, List, ◌++◌, flat_map, OnOk, Ok};
+ghost use Rattle.std.specs.Prelude.{◌≡◌, ℕ, List, ◌++◌, flat_map, OnOk};
 ghost use Rattle.hex.specs.Hex.{decode_of};
+ghost use Rattle.values_plain.specs.declared.address.Udp.TheVariants as udp;
+ghost use Rattle.node_rules.specs.declared.event.Event.TheVariants as event;
 ghost use Rattle.values_lines.specs.Words.{split_word as split_words};
 ghost use Rattle.cli_answer.specs.Answer.{StoreLine, command_of, command_text};
 ghost use Rattle.cli_answer.specs.Answer.{datagram_of as datagram_words, store_of, placed_text};
-ghost use Rattle.cli_answer.specs.Answer.{packet_hex, IsIcpFault, IsHtcpFault, IsSilence};
+ghost use Rattle.cli_answer.specs.Answer.{sent_hex, sent_text, StepAnswers, OctetsAnswer};
 ghost use Rattle.cli_answer.specs.Answer.{DatagramAnswers, CommandAnswers};
 ghost use Rattle.cli_answer.specs.Answered.{AnswererAnswers, HasAnswered};
 
@@ -12,9 +14,9 @@ use crate::first::{Answering, first_node};
 use hex::FromHexError;
 use htcp_wire::HtcpFault;
 use icp_wire::IcpFault;
-use node_bytes::{Packet, on_datagram, read_htcp, read_icp};
+use node_bytes::{octets_of, read_htcp, read_icp};
 use node_core::{PlaceFault, Placed};
-use node_rules::StepFault;
+use node_rules::{Event, Outgoing, Received, StepFault};
 use roster::{Address, Udp};
 use std::alloc::{AllocError, Global};
 use std::io::{Read, Write};
@@ -220,7 +222,7 @@ fn answer_hex(
     }
 }
 
-/// Answers a datagram that comes at second 0.
+/// Answers a datagram by its protocol.
 fn answer_octets(
     alloc: Global,
     node: &mut Answering,
@@ -230,62 +232,94 @@ fn answer_octets(
     text: &mut Vec<u8>,
 ) -> Result<(), AllocError>
     ensures { OnOk result ((answer : List ℕ)
-        × DatagramAnswers node.old by from (Ok octets.now) answer node.new
+        × OctetsAnswer node.old by from octets.now answer node.new
         × (text.new.items ≡ text.old.items ++ answer)) }
 {
-    match on_datagram(alloc, node, by, from, octets, 0) {
-        Ok(turn) => {
-            let packets = turn.send.as_slice();
-            if packets.is_empty() {
-                push_silence(alloc, by, octets, text)
-            } else {
-                push_packets(alloc, packets, text)
-            }
-        }
+    match by {
+        Udp::Icp => answer_icp(alloc, node, from, octets, text),
+        Udp::Htcp => answer_htcp(alloc, node, from, octets, text),
+    }
+}
+
+/// Answers an ICP datagram.
+fn answer_icp(
+    alloc: Global,
+    node: &mut Answering,
+    from: Address,
+    octets: &[u8],
+    text: &mut Vec<u8>,
+) -> Result<(), AllocError>
+    ensures { OnOk result ((answer : List ℕ)
+        × OctetsAnswer node.old udp.Icp from octets.now answer node.new
+        × (text.new.items ≡ text.old.items ++ answer)) }
+{
+    match read_icp(alloc, octets) {
+        Ok(message) => answer_message(alloc, node, from, message, text),
+        Err(IcpFault::NoMemory) => Err(AllocError),
+        Err(fault) => text.extend_from_slice(fault.name().as_bytes()),
+    }
+}
+
+/// Answers an HTCP datagram.
+fn answer_htcp(
+    alloc: Global,
+    node: &mut Answering,
+    from: Address,
+    octets: &[u8],
+    text: &mut Vec<u8>,
+) -> Result<(), AllocError>
+    ensures { OnOk result ((answer : List ℕ)
+        × OctetsAnswer node.old udp.Htcp from octets.now answer node.new
+        × (text.new.items ≡ text.old.items ++ answer)) }
+{
+    match read_htcp(alloc, octets) {
+        Ok(message) => answer_message(alloc, node, from, message, text),
+        Err(HtcpFault::NoMemory) => Err(AllocError),
+        Err(fault) => text.extend_from_slice(fault.name().as_bytes()),
+    }
+}
+
+/// Answers a message that comes at second 0.
+fn answer_message(
+    alloc: Global,
+    node: &mut Answering,
+    from: Address,
+    message: Received,
+    text: &mut Vec<u8>,
+) -> Result<(), AllocError>
+    ensures { OnOk result ((answer : List ℕ)
+        × StepAnswers node.old (event.Datagram from message 0) answer node.new
+        × (text.new.items ≡ text.old.items ++ answer)) }
+{
+    let event = Event::Datagram {
+        from,
+        message,
+        now: 0,
+    };
+    match node.step(event, ()) {
+        Ok(reply) => push_sent(alloc, reply.send.as_slice(), text),
         Err(StepFault::NoMemory) => Err(AllocError),
         Err(fault) => text.extend_from_slice(fault.name().as_bytes()),
     }
 }
 
-/// Writes why nothing is sent: the fault of octets that are no message, or `nothing`.
-fn push_silence(alloc: Global, by: Udp, octets: &[u8], text: &mut Vec<u8>) -> Result<(), AllocError>
-    ensures { OnOk result ((answer : List ℕ) × IsSilence by octets.now answer
-        × (text.new.items ≡ text.old.items ++ answer)) }
+/// Writes what is sent, one datagram after another in hex, or `nothing`.
+fn push_sent(alloc: Global, sent: &[Outgoing], text: &mut Vec<u8>) -> Result<(), AllocError>
+    ensures { OnOk result (text.new.items ≡ text.old.items ++ sent_text sent.now) }
 {
-    match by {
-        Udp::Icp => match icp_fault(alloc, octets) {
-            None => text.extend_from_slice(b"nothing"),
-            Some(IcpFault::NoMemory) => Err(AllocError),
-            Some(fault) => text.extend_from_slice(fault.name().as_bytes()),
-        },
-        Udp::Htcp => match htcp_fault(alloc, octets) {
-            None => text.extend_from_slice(b"nothing"),
-            Some(HtcpFault::NoMemory) => Err(AllocError),
-            Some(fault) => text.extend_from_slice(fault.name().as_bytes()),
-        },
+    match sent {
+        [] => text.extend_from_slice(b"nothing"),
+        [_, ..] => push_datagrams(alloc, sent, text),
     }
 }
 
-/// The first fault of octets as an ICP message, or `NoMemory`.
-fn icp_fault(alloc: Global, octets: &[u8]) -> Option<IcpFault>
-    ensures { IsIcpFault octets.now result }
-{
-    read_icp(alloc, octets).err()
-}
-
-/// The first fault of octets as an HTCP message, or `NoMemory`.
-fn htcp_fault(alloc: Global, octets: &[u8]) -> Option<HtcpFault>
-    ensures { IsHtcpFault octets.now result }
-{
-    read_htcp(alloc, octets).err()
-}
-
 /// Writes datagrams, one after another in hex.
-fn push_packets(alloc: Global, packets: &[Packet], text: &mut Vec<u8>) -> Result<(), AllocError>
-    ensures { OnOk result (text.new.items ≡ text.old.items ++ flat_map packet_hex packets.now) }
+fn push_datagrams(alloc: Global, sent: &[Outgoing], text: &mut Vec<u8>) -> Result<(), AllocError>
+    ensures { OnOk result (text.new.items ≡ text.old.items ++ flat_map sent_hex sent.now) }
 {
-    for packet in packets {
-        text.extend_from_slice(hex::encode(alloc, packet.octets.as_slice())?.as_bytes())?;
+    for datagram in sent {
+        let octets = octets_of(alloc, datagram)?;
+        text.extend_from_slice(hex::encode(alloc, octets.as_slice())?.as_bytes())?;
     }
     Ok(())
 }

@@ -8,9 +8,8 @@
 //!   what the datagram says, or by its fault.
 //!
 //! Order of reading: `specs/Answer.antt` (lines and their answers), `specs/Answered.antt` (a whole
-//! run); `src/first.rt`, `src/answer.rt`; `proofs/Silence.antt` (why a datagram is answered by its
-//! fault, by `nothing`, or by what the node sends). For `cache wire`: `specs/Wire.antt` (how each
-//! message is shown), `src/wire.rt` (the lines), `src/wire/icp.rt`, `src/wire/htcp.rt`.
+//! run); `src/first.rt`, `src/answer.rt`. For `cache wire`: `specs/Wire.antt` (how each message is
+//! shown), `src/wire.rt` (the lines), `src/wire/icp.rt`, `src/wire/htcp.rt`.
 //!
 //! The crate touches only the reader and the writer that are passed in.
 //!

@@ -7,8 +7,8 @@ use Rattle.std.specs.Io.KnownBytes.{Appends, Keeps}
 use Rattle.std.proofs.KnownBytes.{Appends-nil, Appends-trans, Keeps-refl}
 use Rattle.values_tables.specs.declared.plain.Tables.{Tables}
 use Rattle.values_lines.specs.Lines.{newline, lines_of, lines_before, is_long}
-use Rattle.cluster_console.specs.declared.input.Taken.{Taken}
-use Rattle.cluster_console.specs.declared.input.Taken.TheVariants as taken
+use Rattle.cluster_console.specs.declared.input.LineRead.{LineRead}
+use Rattle.cluster_console.specs.declared.input.LineRead.TheVariants as taken
 use Rattle.cluster_console.specs.declared.play.Ended.{Ended}
 use Rattle.cluster_console.specs.declared.play.Ended.TheVariants as ended
 use Rattle.cluster_console.specs.Checked.{Gathered}
@@ -223,7 +223,7 @@ module _ (roster : Tables) where
       no_answers b before now input (lines_of xs) on.taken old new on.lines took on.begun on.answers
 
   -- what was taken is answered
-  pub answered_taken : (t : Taken) (b c f : Bool) (before now next : Option Gathered) (input rest after : Option (List ℕ)) (line : List ℕ)
+  pub answered_taken : (t : LineRead) (b c f : Bool) (before now next : Option Gathered) (input rest after : Option (List ℕ)) (line : List ℕ)
       (old middle new : Option (List ℕ)) → Answering roster b f before now input rest old middle → TakesLine rest after t line →
       is_over t line ≡ false → AnswersTaken roster now t line middle new c next → Answering roster (b && c) false before next input after old new
   answered_taken taken.Line b c f before now next None rest after line old middle new on took other one = tt
@@ -238,7 +238,7 @@ module _ (roster : Tables) where
       let bad : true ≡ false = other in absurd cc
 
   -- what was taken ends the lines
-  pub ended_taken : (t : Taken) (b f : Bool) (before now : Option Gathered) (input rest after : Option (List ℕ)) (line : List ℕ)
+  pub ended_taken : (t : LineRead) (b f : Bool) (before now : Option Gathered) (input rest after : Option (List ℕ)) (line : List ℕ)
       (old new : Option (List ℕ)) → Answering roster b f before now input rest old new → TakesLine rest after t line → is_over t line ≡ true →
       HasAnswered roster before input old new (ending_of t f b) now
   ended_taken taken.Line true f before now input rest after line old new on took over =

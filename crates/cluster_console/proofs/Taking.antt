@@ -5,8 +5,8 @@ use Rattle.std.proofs.lemmas.Bool.Decides.{nat_tests}
 use Rattle.std.proofs.lemmas.List.{take-append-le}
 use Rattle.std.specs.Io.KnownBytes.{Consumes}
 use Rattle.values_lines.specs.Lines.{newline, lines_of, in_first, is_long}
-use Rattle.cluster_console.specs.declared.input.Taken.{Taken}
-use Rattle.cluster_console.specs.declared.input.Taken.TheVariants as taken
+use Rattle.cluster_console.specs.declared.input.LineRead.{LineRead}
+use Rattle.cluster_console.specs.declared.input.LineRead.TheVariants as taken
 use Rattle.cluster_console.specs.Taking.{TakesOctet, TakesLine, IsLength, IsLast, HasNoEnd, Taking}
 
 -- LF ends a line
@@ -90,7 +90,7 @@ short_line : (line : List ℕ) → is_long line ≡ false → length line ≤ 14
 short_line line short = grind (arith, nat_tests)
 
 -- the lines of the input are the line and the lines of the rest
-line_taken : (xs zs front line : List ℕ) (t : Taken) → lines_of xs ≡ front ∷ lines_of zs → line ≡ take 140001 front → IsLength line t →
+line_taken : (xs zs front line : List ℕ) (t : LineRead) → lines_of xs ≡ front ∷ lines_of zs → line ≡ take 140001 front → IsLength line t →
     TakesLine (Some xs) (Some zs) t line
 line_taken xs zs front line taken.Line lines kept short =
     (lines ∙ ap (λ l. l ∷ lines_of zs) (sym (all_kept front line kept (short_line line short))), short)
@@ -98,7 +98,7 @@ line_taken xs zs front line taken.TooLong lines kept long = (front, lines, is_lo
 line_taken xs zs front line taken.End lines kept none = absurd none
 
 -- LF was read
-pub taken_at_end : (input now after : Option (List ℕ)) (line : List ℕ) (t : Taken) → Taking input now line → Consumes now after (newline ∷ []) →
+pub taken_at_end : (input now after : Option (List ℕ)) (line : List ℕ) (t : LineRead) → Taking input now line → Consumes now after (newline ∷ []) →
     IsLength line t → TakesLine input after t line
 taken_at_end None now after line t on took is = tt
 taken_at_end (Some xs) None after line t on took is = absurd on
@@ -107,14 +107,14 @@ taken_at_end (Some xs) (Some ys) (Some zs) line t on took is =
     line_taken xs zs on.front line t (ap lines_of (on.is ∙ ap (λ l. on.front ++ l) took) ∙ line_ended on.front zs on.unended) on.kept is
 
 -- the end of the input was read, behind some octets
-left_taken : (xs zs front line : List ℕ) (t : Taken) → xs ≡ front → zs ≡ [] → HasNoEnd front → line ≡ take 140001 front → 0 < length line →
+left_taken : (xs zs front line : List ℕ) (t : LineRead) → xs ≡ front → zs ≡ [] → HasNoEnd front → line ≡ take 140001 front → 0 < length line →
     IsLength line t → TakesLine (Some xs) (Some zs) t line
 left_taken xs zs [] line t is none unended kept some measured =
     let all : line ≡ [] = kept in absurd (omega (arith, some, ap length all))
 left_taken xs zs (octet ∷ front) line t is none unended kept some measured =
     line_taken xs zs (octet ∷ front) line t (ap lines_of is ∙ line_left octet front unended ∙ ap (λ l. (octet ∷ front) ∷ lines_of l) (sym none)) kept measured
 
-some_taken : (input now after : Option (List ℕ)) (line : List ℕ) (t : Taken) → Taking input now line → TakesOctet now after None →
+some_taken : (input now after : Option (List ℕ)) (line : List ℕ) (t : LineRead) → Taking input now line → TakesOctet now after None →
     0 < length line → IsLength line t → TakesLine input after t line
 some_taken None now after line t on took some is = tt
 some_taken (Some xs) None after line t on took some is = absurd on
@@ -143,7 +143,7 @@ nothing_taken (Some xs) (Some ys) (Some zs) line on took none =
     nothing_left xs on.front line (on.is ∙ ap (λ l. on.front ++ l) end ∙ append-nil on.front) on.kept none
 
 -- the end of the input was read
-pub taken_at_last : (input now after : Option (List ℕ)) (line : List ℕ) (t : Taken) → Taking input now line → TakesOctet now after None →
+pub taken_at_last : (input now after : Option (List ℕ)) (line : List ℕ) (t : LineRead) → Taking input now line → TakesOctet now after None →
     IsLast line t → TakesLine input after t line
 taken_at_last input now after [] t on took is = subst (λ x. TakesLine input after x []) (sym is) (nothing_taken input now after [] on took refl)
 taken_at_last input now after (octet ∷ octets) t on took is = some_taken input now after (octet ∷ octets) t on took (omega arith) is

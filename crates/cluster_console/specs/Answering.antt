@@ -3,8 +3,8 @@ use Rattle.std.specs.Prelude.{◌≡◌, ◌≢◌, ℕ, ◌≤◌, Bool, true, 
 use Rattle.std.specs.Io.KnownBytes.{Appends, Keeps}
 use Rattle.values_tables.specs.declared.plain.Tables.{Tables}
 use Rattle.values_lines.specs.Lines.{newline, lines_of, lines_before, is_long}
-use Rattle.cluster_console.specs.declared.input.Taken.{Taken}
-use Rattle.cluster_console.specs.declared.input.Taken.TheVariants as taken
+use Rattle.cluster_console.specs.declared.input.LineRead.{LineRead}
+use Rattle.cluster_console.specs.declared.input.LineRead.TheVariants as taken
 use Rattle.cluster_console.specs.declared.play.Ended.{Ended}
 use Rattle.cluster_console.specs.declared.play.Ended.TheVariants as ended
 use Rattle.cluster_console.specs.Checked.{Gathered}
@@ -27,7 +27,7 @@ AnswersLine roster before line old new whole after = (answer : List ℕ) × Line
     × AppendsText old new whole (answer ++ newline ∷ [])
 
 -- what was taken is answered: a line, or that it is too long
-abbrev pub AnswersTaken : Tables → Option Gathered → Taken → List ℕ → Option (List ℕ) → Option (List ℕ) → Bool →
+abbrev pub AnswersTaken : Tables → Option Gathered → LineRead → List ℕ → Option (List ℕ) → Option (List ℕ) → Bool →
     Option Gathered → Type 0
 AnswersTaken roster before taken.Line line old new whole after = is_long line ≡ false →
     AnswersLine roster before line old new whole after
@@ -36,14 +36,14 @@ AnswersTaken roster before taken.TooLong line old new whole after =
 AnswersTaken roster before taken.End line old new whole after = ⊤
 
 -- whether what was taken ends the lines
-abbrev pub is_over : Taken → List ℕ → Bool
+abbrev pub is_over : LineRead → List ℕ → Bool
 is_over taken.Line line = bytes_eq line quit
 is_over taken.TooLong line = false
 is_over taken.End line = true
 
 -- how a run ends whose lines this has ended, by whether it was the first that was taken, and whether each answer is
 -- whole
-abbrev pub ending_of : Taken → Bool → Bool → Ended
+abbrev pub ending_of : LineRead → Bool → Bool → Ended
 ending_of taken.End true whole = ended.NoLine
 ending_of _ first true = ended.Answered
 ending_of _ first false = ended.OutputFailed

@@ -2,8 +2,8 @@
 use Rattle.std.specs.Prelude.{◌≡◌, ℕ, false, true, ◌==◌, List, [], ◌∷◌, ◌++◌, take, Option, Some, None, ⊤}
 use Rattle.std.specs.Io.KnownBytes.{Keeps, Consumes, IsAtEnd}
 use Rattle.values_lines.specs.Lines.{newline, lines_of, is_long}
-use Rattle.cluster_console.specs.declared.input.Taken.{Taken}
-use Rattle.cluster_console.specs.declared.input.Taken.TheVariants as taken
+use Rattle.cluster_console.specs.declared.input.LineRead.{LineRead}
+use Rattle.cluster_console.specs.declared.input.LineRead.TheVariants as taken
 
 -- the next octet was taken, or none was left
 abbrev pub TakesOctet : Option (List ℕ) → Option (List ℕ) → Option ℕ → Type 0
@@ -11,7 +11,7 @@ TakesOctet old new None = Keeps old new × IsAtEnd new
 TakesOctet old new (Some octet) = Consumes old new (octet ∷ [])
 
 -- the next line was taken, or none was left
-abbrev pub TakesLine : Option (List ℕ) → Option (List ℕ) → Taken → List ℕ → Type 0
+abbrev pub TakesLine : Option (List ℕ) → Option (List ℕ) → LineRead → List ℕ → Type 0
 TakesLine None new t line = ⊤
 TakesLine (Some xs) None t line = ⊥
 TakesLine (Some xs) (Some ys) taken.Line line = (lines_of xs ≡ line ∷ lines_of ys) × (is_long line ≡ false)
@@ -20,13 +20,13 @@ TakesLine (Some xs) (Some ys) taken.TooLong line = (long : List ℕ) × (lines_o
 TakesLine (Some xs) (Some ys) taken.End line = lines_of xs ≡ []
 
 -- whether these octets are a line that is too long
-abbrev pub IsLength : List ℕ → Taken → Type 0
+abbrev pub IsLength : List ℕ → LineRead → Type 0
 IsLength line taken.Line = is_long line ≡ false
 IsLength line taken.TooLong = is_long line ≡ true
 IsLength line taken.End = ⊥
 
 -- what these octets are at the end of an input: a line, unless there are none
-abbrev pub IsLast : List ℕ → Taken → Type 0
+abbrev pub IsLast : List ℕ → LineRead → Type 0
 IsLast [] t = t ≡ taken.End
 IsLast (octet ∷ octets) t = IsLength (octet ∷ octets) t
 

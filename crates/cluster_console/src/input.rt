@@ -19,7 +19,7 @@ pub(crate) struct InputFailed;
 
 /// What was taken from an input.
 #[derive(Clone, Copy)]
-pub(crate) enum Taken {
+pub(crate) enum LineRead {
     /// A line of at most 140,000 octets.
     Line,
     /// A line of more octets. None of it is left.
@@ -56,22 +56,22 @@ fn next_octet<R: Wait + Clock, I: Read>(rt: &R, input: &mut I) -> Result<Option<
 }
 
 /// What a line is that began with these octets: the whole line, or 140,001 octets of it.
-fn taken_of(line: &[u8]) -> Taken
+fn taken_of(line: &[u8]) -> LineRead
     ensures { IsLength line.now result }
 {
     if LONGEST_LINE < line.len() {
-        Taken::TooLong
+        LineRead::TooLong
     } else {
-        Taken::Line
+        LineRead::Line
     }
 }
 
 /// What is left at the end of an input: these octets of a line, if there are any.
-fn last_of(line: &[u8]) -> Taken
+fn last_of(line: &[u8]) -> LineRead
     ensures { IsLast line.now result }
 {
     if line.is_empty() {
-        Taken::End
+        LineRead::End
     } else {
         taken_of(line)
     }
@@ -83,7 +83,7 @@ pub(crate) fn next_line<R: Wait + Clock, I: Read>(
     rt: &R,
     input: &mut I,
     line: &mut Vec<u8>,
-) -> Result<Taken, InputFailed>
+) -> Result<LineRead, InputFailed>
     requires { 140001 ≤ vec_capacity line.old }
     ensures capacity { vec_capacity line.new ≡ vec_capacity line.old }
     ensures taken { IfOk result (λ taken. TakesLine (I.remaining input.old)

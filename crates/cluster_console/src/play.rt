@@ -16,7 +16,7 @@ ghost use Rattle.cluster_console.specs.Shown.{is_in as is_in_purges};
 ghost use Rattle.cluster_console.specs.Shown.{is_outside as is_outside_member};
 
 use crate::check::Checker;
-use crate::input::{InputFailed, LONGEST_LINE, Taken, next_line};
+use crate::input::{InputFailed, LONGEST_LINE, LineRead, next_line};
 use crate::line::{Line, line_of};
 use crate::show::{
     push_admission, push_asked, push_checked, push_got, push_member, push_number, push_peers,
@@ -143,23 +143,23 @@ fn both(first: bool, second: bool) -> bool
 }
 
 /// Whether what was taken ends the lines: the end of the input, or `quit`.
-fn is_over(taken: Taken, line: &[u8]) -> bool
+fn is_over(taken: LineRead, line: &[u8]) -> bool
     ensures { result ≡ is_over_by taken line.now }
 {
     match taken {
-        Taken::Line => line == QUIT,
-        Taken::TooLong => false,
-        Taken::End => true,
+        LineRead::Line => line == QUIT,
+        LineRead::TooLong => false,
+        LineRead::End => true,
     }
 }
 
 /// How a run ended whose lines this has ended.
-fn ending(taken: Taken, is_first: bool, is_whole: bool) -> Ended
+fn ending(taken: LineRead, is_first: bool, is_whole: bool) -> Ended
     ensures { result ≡ ending_of taken is_first is_whole }
 {
     match taken {
-        Taken::End if is_first => Ended::NoLine,
-        Taken::Line | Taken::TooLong | Taken::End => {
+        LineRead::End if is_first => Ended::NoLine,
+        LineRead::Line | LineRead::TooLong | LineRead::End => {
             if is_whole {
                 Ended::Answered
             } else {
@@ -228,7 +228,7 @@ impl<S: PurgeStore, C: Checker, R: Wait + Clock + Net> Player<'_, S, C, R> {
     fn answer_taken<O: Write>(
         &mut self,
         alloc: Global,
-        taken: Taken,
+        taken: LineRead,
         line: &[u8],
         text: &mut Vec<u8>,
         output: &mut O,
@@ -239,9 +239,9 @@ impl<S: PurgeStore, C: Checker, R: Wait + Clock + Net> Player<'_, S, C, R> {
         ensures roster { self.new.roster.now ≡ self.old.roster.now }
     {
         match taken {
-            Taken::Line => self.answer_line(alloc, line, text, output),
-            Taken::TooLong => write_answer(output, b"LineTooLong\n"),
-            Taken::End => true,
+            LineRead::Line => self.answer_line(alloc, line, text, output),
+            LineRead::TooLong => write_answer(output, b"LineTooLong\n"),
+            LineRead::End => true,
         }
     }
 

@@ -5,7 +5,7 @@ use Rattle.std.specs.declared.io.ErrorKind.TheVariants.{OutOfMemory}
 use Rattle.http_messages.specs.Answer.{AnswerText}
 use Rattle.cluster_fetch.specs.declared.events.ResponseSource.{ResponseSource}
 use Rattle.cluster_fetch.specs.declared.ended.Fetched.{Fetched}
-use Rattle.cluster_fetch.specs.declared.under_way.Fetch.{Fetch}
+use Rattle.cluster_fetch.specs.declared.under_way.FetchRequest.{FetchRequest}
 
 -- whom a fetch asks, the serial under which the node waits for it, the key that it asks for, and whether this machine
 -- lacked something for it
@@ -16,7 +16,7 @@ pub record FetchingView : Type 0 where
   pub lacked : Bool
 
 -- what is under way once a fetch has begun
-abbrev pub asked_by : Fetch → FetchingView
+abbrev pub asked_by : FetchRequest → FetchingView
 asked_by f = record { source = f.source; serial = f.serial; key = f.ask.key; lacked = false }
 
 -- it is the same fetch, whether or not this machine has lacked something for it since

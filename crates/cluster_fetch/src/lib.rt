@@ -24,4 +24,4 @@ mod under_way;
 pub use asking::exchange;
 pub use ended::Fetched;
 pub use events::{ResponseSource, fetched};
-pub use under_way::{Fetch, Fetching, Unbegun, is_want_of_descriptors};
+pub use under_way::{FetchRequest, Fetching, Unbegun, is_want_of_descriptors};

@@ -10,7 +10,7 @@ use crate::ended::Fetched;
 use crate::events::ResponseSource;
 use crate::received::Received;
 use http_messages::{Answer, Ask};
-use http_reading::read_answer;
+use http_reading::{lower_versions, read_answer};
 use http_writing::{AskForm, write_ask};
 use mio::net::TcpStream;
 use mio::{Interest, Registry, Token};
@@ -34,7 +34,7 @@ const MOST_TRIES: u32 = 64;
 
 /// What is to be fetched, and from whom.
 #[derive(Drop)]
-pub struct Fetch {
+pub struct FetchRequest {
     /// Whom it asks.
     pub source: ResponseSource,
     /// The serial under which the node waits for it.
@@ -146,7 +146,7 @@ pub fn is_want_of_descriptors(error: &Error) -> bool
 fn connected<R: Net>(
     rt: &R,
     alloc: Global,
-    fetch: &Fetch,
+    fetch: &FetchRequest,
     name: &[u8],
 ) -> io::Result<(TcpStream, Vec<u8>)>
     requires { IsTrue (names_cache name.now) }
@@ -155,7 +155,7 @@ fn connected<R: Net>(
     Ok((TcpStream::connect(rt, fetch.at.socket())?, request))
 }
 
-impl Fetch {
+impl FetchRequest {
     /// The fetch as one that has failed before a connection was tried.
     pub fn into_failed(self) -> Fetched
         ensures { result ≡ ended_as (asked_by self) None false }
@@ -184,7 +184,7 @@ impl Fetching {
     pub fn begin<R: Net>(
         rt: &R,
         alloc: Global,
-        fetch: Fetch,
+        fetch: FetchRequest,
         name: &[u8],
         until: Instant,
     ) -> Result<Fetching, Unbegun>
@@ -364,12 +364,14 @@ impl Fetching {
         self.has_ended || (grown > 0 && (self.tries < MOST_TRIES || grown >= self.tried / 4))
     }
 
-    /// Reads the response, if all of it has come.
+    /// Reads the response, if all of it has come. A later minor version of HTTP/1 is read as 1.1
+    /// (RFC 9110, section 6.2).
     fn try_to_read(&mut self, alloc: Global) -> Option<Option<Answer>>
         ensures { self.new ≡ self.old }
     {
         self.tries = self.tries.saturating_add(1);
         self.tried = self.response.len();
+        lower_versions(self.response.as_mut_slice());
         let mut received = Received::new(self.response.as_slice(), self.has_ended);
         let answer = read_answer(alloc, &mut received);
         if received.wants_more() {

@@ -24,6 +24,7 @@ below_six (sight.Datagram Stranger udp from octets) = omega arith
 below_six (sight.Stream number) = omega arith
 below_six (sight.Timer serial) = omega arith
 below_six (sight.Fetched f) = omega arith
+below_six (sight.Failed serial) = omega arith
 
 -- the jobs at a place, with one more in front
 pub count_cons : (k : ℕ) (s : Sight) (xs : List Sight) → length (at_place k (s ∷ xs)) ≡ one k s + length (at_place k xs)
@@ -62,6 +63,7 @@ all_six (sight.Datagram Stranger udp from octets ∷ xs) = let h = all_six xs in
 all_six (sight.Stream number ∷ xs) = let h = all_six xs in omega (arith, h)
 all_six (sight.Timer serial ∷ xs) = let h = all_six xs in omega (arith, h)
 all_six (sight.Fetched f ∷ xs) = let h = all_six xs in omega (arith, h)
+all_six (sight.Failed serial ∷ xs) = let h = all_six xs in omega (arith, h)
 
 -- no job waits, and no lane has one
 pub counts_none : (counts : List ℕ) → counts ≡ replicate 6 0 → AreCounts counts []

@@ -19,6 +19,7 @@ lane_of (sight.Datagram sender udp from octets) = lane_for sender
 lane_of (sight.Stream number) = lane.Streams
 lane_of (sight.Timer serial) = lane.Timers
 lane_of (sight.Fetched f) = lane.Fetches
+lane_of (sight.Failed serial) = lane.Fetches
 
 -- the place of a lane among the six
 abbrev pub place_of : Lane → ℕ

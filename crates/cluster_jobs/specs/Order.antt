@@ -16,6 +16,7 @@ sight_of (job.Datagram sender udp from octets) = sight.Datagram sender udp from 
 sight_of (job.Stream number stream octets) = sight.Stream number
 sight_of (job.Timer serial) = sight.Timer serial
 sight_of (job.Fetched f) = sight.Fetched f
+sight_of (job.Failed serial) = sight.Failed serial
 
 -- the step by which a job is put
 abbrev pub put : Job → Step

@@ -19,7 +19,7 @@ pub enum Sender {
 }
 
 /// A datagram, a connection whose request head has come, a round of queries whose time is over, or
-/// a fetch that has ended.
+/// a fetch that has ended or failed.
 #[derive(Drop)]
 pub enum Job {
     /// A datagram that came over one of the two UDP sockets.
@@ -49,6 +49,12 @@ pub enum Job {
     },
     /// A fetch that has ended.
     Fetched(Fetched),
+    /// A fetch has failed: it was not begun, or the step at its end was refused, for want of
+    /// memory.
+    Failed {
+        /// The serial of the fetch.
+        serial: u32,
+    },
 }
 
 /// The lanes of the queue. Each has room for 256 jobs of its own, so that a flood of one kind drops
@@ -65,7 +71,7 @@ pub enum Lane {
     Streams,
     /// Timers.
     Timers,
-    /// Fetches that have ended.
+    /// Fetches that have ended or failed.
     Fetches,
 }
 
@@ -101,7 +107,7 @@ impl Job {
             },
             Job::Stream { .. } => Lane::Streams,
             Job::Timer { .. } => Lane::Timers,
-            Job::Fetched(_) => Lane::Fetches,
+            Job::Fetched(_) | Job::Failed { .. } => Lane::Fetches,
         }
     }
 }

@@ -1,11 +1,11 @@
 //! The bounded queue of jobs between a node's event loop and its workers.
 //!
 //! The thread of the event loop puts each [`Job`]: a datagram, a connection whose request head has
-//! come, the timeout of a round of queries, or a fetch that has ended. Workers take the jobs.
-//! [`Jobs`] is first in, first out, under one lock. Each [`Lane`] has room for 256 jobs of its own
-//! ([`CAPACITY`]): what comes from the master, from peers and from anybody else waits apart, and so
-//! do connections, timers and fetches. So a flood of one kind drops no job of another.
-//! [`Jobs::put`] does not wait for space: where a lane is full it gives the job back.
+//! come, the timeout of a round of queries, or a fetch that has ended or failed. Workers take the
+//! jobs. [`Jobs`] is first in, first out, under one lock. Each [`Lane`] has room for 256 jobs of
+//! its own ([`CAPACITY`]): what comes from the master, from peers and from anybody else waits
+//! apart, and so do connections, timers and fetches. So a flood of one kind drops no job of
+//! another. [`Jobs::put`] does not wait for space: where a lane is full it gives the job back.
 //! [`Jobs::take`] does not wait for a job: where none is there it gives none; [`Jobs::wait`] waits
 //! for one.
 //!

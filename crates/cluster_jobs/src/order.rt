@@ -12,6 +12,7 @@ pub enum Sight {
     Stream(u64),
     Timer(u32),
     Fetched(Fetched),
+    Failed(u32),
 }
 
 /// One step of the queue: a job was put, or a job was taken.

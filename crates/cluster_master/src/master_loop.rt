@@ -4,7 +4,7 @@ ghost use Rattle.cluster_master.specs.Names.{IsAtPort};
 
 use crate::fault::MasterStartFault;
 use crate::schedule::Schedule;
-use crate::sending::{Line, MasterSender, moment};
+use crate::sending::{MasterSender, MasterShared, moment};
 use crate::shared::SharedMaster;
 use mio::net::UdpSocket;
 use mio::{Events, Interest, Poll, Token, Waker};
@@ -81,20 +81,20 @@ impl MasterLoop {
         let poll = Poll::new(rt)?;
         poll.registry()
             .register(&mut socket, SOCKET, Interest::READABLE)?;
-        let line = Line {
+        let shared = MasterShared {
             socket,
             waker: Waker::new(poll.registry(), WAKER)?,
             schedule: Mutex::new(Schedule::new(alloc)),
         };
-        let line = match Arc::new(alloc, line) {
-            Ok(line) => line,
+        let shared = match Arc::new(alloc, shared) {
+            Ok(shared) => shared,
             Err(_) => return Err(MasterStartFault::NoMemory),
         };
         Ok(MasterLoop {
             alloc,
             poll,
             events: Events::with_capacity(alloc, MOST_EVENTS)?,
-            sender: MasterSender::of(alloc, line),
+            sender: MasterSender::of(alloc, shared),
             buffer: vec![in alloc; 0; LONGEST_DATAGRAM]?,
             is_ready: true,
         })

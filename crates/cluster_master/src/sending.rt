@@ -55,7 +55,7 @@ pub(crate) fn moment<C: Clock>(clock: &C) -> io::Result<u64> {
 
 /// What the master's loop and its senders share.
 #[derive(Drop)]
-pub(crate) struct Line {
+pub(crate) struct MasterShared {
     /// The master's socket.
     pub(crate) socket: UdpSocket,
     /// What ends a poll of the loop.
@@ -68,36 +68,36 @@ pub(crate) struct Line {
 #[derive(Drop)]
 pub struct MasterSender {
     alloc: Global,
-    line: Arc<Line, Global>,
+    shared: Arc<MasterShared, Global>,
 }
 
 impl MasterSender {
-    /// A sender on this line.
-    pub(crate) fn of(alloc: Global, line: Arc<Line, Global>) -> MasterSender {
-        MasterSender { alloc, line }
+    /// A sender that shares this with its loop.
+    pub(crate) fn of(alloc: Global, shared: Arc<MasterShared, Global>) -> MasterSender {
+        MasterSender { alloc, shared }
     }
 
     /// The socket that it sends on.
     pub(crate) fn socket(&self) -> &UdpSocket {
-        &self.line.socket
+        &self.shared.socket
     }
 
     /// The moment at which something is to be sent again, or the master to be asked.
     pub(crate) fn earliest<R: Wait>(&self, rt: &R) -> u64 {
-        self.line.schedule.lock(rt).earliest()
+        self.shared.schedule.lock(rt).earliest()
     }
 
     /// The same sender for another thread. `AllocError` comes where one more owner cannot be
     /// counted.
     pub fn try_clone(&self) -> Result<MasterSender, AllocError> {
-        Ok(MasterSender::of(self.alloc, Arc::try_clone(&self.line)?))
+        Ok(MasterSender::of(self.alloc, Arc::try_clone(&self.shared)?))
     }
 
     /// Sends octets to a member, without waiting. What the system does not take is lost.
     fn send(&self, roster: &Roster, member: u8, octets: &[u8]) {
         if let Some(address) = htcp_of(roster, member) {
             // (a CLR that is lost is sent again)
-            let _ = self.line.socket.send_to(octets, address.socket());
+            let _ = self.shared.socket.send_to(octets, address.socket());
         }
     }
 
@@ -115,18 +115,18 @@ impl MasterSender {
     fn enter<R: Wait + Clock>(&self, rt: &R, number: u32) {
         // (without a clock the CLRs are sent again at once)
         let now = moment(rt).unwrap_or(0);
-        self.line.schedule.lock(rt).add(number, now);
+        self.shared.schedule.lock(rt).add(number, now);
         // (a loop that is not woken looks within 100 milliseconds)
-        let _ = self.line.waker.wake();
+        let _ = self.shared.waker.wake();
     }
 
     /// Has the loop send the CLR of each pending number up to this one, the last that was given, as
     /// soon as it may, whenever it was sent before. The owner calls it once the members run, while
     /// no number is given: what was sent to the members before is lost.
     pub fn send_afresh<R: Wait>(&self, rt: &R, last: u32) {
-        self.line.schedule.lock(rt).restart(last);
+        self.shared.schedule.lock(rt).restart(last);
         // (a loop that is not woken looks within 100 milliseconds)
-        let _ = self.line.waker.wake();
+        let _ = self.shared.waker.wake();
     }
 
     /// Enters a new number, and sends its CLR to each member that it needs, by ascending id.
@@ -205,7 +205,7 @@ impl MasterSender {
     ) -> Option<Vec<u8>>
         ensures { IfSome result (λ octets. AreClearOf number octets.items) }
     {
-        if !self.line.schedule.lock(rt).takes(number, now, has_room) {
+        if !self.shared.schedule.lock(rt).takes(number, now, has_room) {
             return None;
         }
         clear_of(rt, self.alloc, master, number)
@@ -223,13 +223,13 @@ impl MasterSender {
         now: u64,
     ) {
         let mut left = MOST_AGAIN;
-        let mut room = self.line.schedule.lock(rt).room(pairs, now);
+        let mut room = self.shared.schedule.lock(rt).room(pairs, now);
         let mut known = 0;
         let mut clear = None;
         for (number, member) in pairs {
             if *number != known {
                 if left == 0 {
-                    self.line.schedule.lock(rt).hurry();
+                    self.shared.schedule.lock(rt).hurry();
                     break;
                 }
                 known = *number;
@@ -257,9 +257,12 @@ impl MasterSender {
         let Ok(numbers) = master.settled(rt) else {
             return;
         };
-        self.line.schedule.lock(rt).note_settled(numbers.len(), now);
+        self.shared
+            .schedule
+            .lock(rt)
+            .note_settled(numbers.len(), now);
         if numbers.is_empty() {
-            self.line.schedule.lock(rt).end_settled();
+            self.shared.schedule.lock(rt).end_settled();
         }
         for number in numbers.as_slice().iter().take(MOST_SETTLED) {
             if let Some(octets) = clear_of(rt, self.alloc, master, *number) {
@@ -279,23 +282,23 @@ impl MasterSender {
         master: &SharedMaster<S>,
         now: u64,
     ) {
-        let last = self.line.schedule.lock(rt).last();
-        self.line.schedule.lock(rt).begin(now);
-        let takes_settled = self.line.schedule.lock(rt).takes_settled(now);
+        let last = self.shared.schedule.lock(rt).last();
+        self.shared.schedule.lock(rt).begin(now);
+        let takes_settled = self.shared.schedule.lock(rt).takes_settled(now);
         if !takes_settled && !master.may_be_due(rt) {
-            self.line.schedule.lock(rt).keep(last, &[]);
+            self.shared.schedule.lock(rt).keep(last, &[]);
             return;
         }
         match master.call(rt, MasterCall::Due) {
             Ok(MasterAnswer::Due(pairs)) => {
-                self.line.schedule.lock(rt).keep(last, pairs.as_slice());
+                self.shared.schedule.lock(rt).keep(last, pairs.as_slice());
                 self.send_pairs(rt, roster, master, pairs.as_slice(), now);
                 if takes_settled {
                     self.send_settled(rt, roster, master, now);
                 }
             }
             // (a closed master counts no acknowledgement)
-            Err(MasterFault::Closed) => self.line.schedule.lock(rt).end_settled(),
+            Err(MasterFault::Closed) => self.shared.schedule.lock(rt).end_settled(),
             _ => (),
         }
     }

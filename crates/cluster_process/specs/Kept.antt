@@ -7,7 +7,7 @@ use Rattle.cluster_console.specs.Checked.{Gathered, GoesOn}
 use Rattle.cluster_console.specs.declared.play.Ended.{Ended}
 use Rattle.cluster_console.specs.declared.play.Ended.TheVariants as ended
 use Rattle.cluster_console.specs.Answering.{HasAnswered}
-use Rattle.cluster_process.specs.declared.kept.Kept.{Kept}
+use Rattle.cluster_process.specs.declared.kept.RecordedRun.{RecordedRun}
 
 -- this record has no entry, and it is not the first of its member
 abbrev pub tells_nothing : List Record → Record → Bool
@@ -18,7 +18,7 @@ abbrev pub with_record : List Record → Record → List Record
 with_record records next = if tells_nothing records next then records else records ++ next ∷ []
 
 -- what is kept, as it was gathered
-abbrev pub gathered_in : Option Kept → Option Gathered
+abbrev pub gathered_in : Option RecordedRun → Option Gathered
 gathered_in kept = option_map (λ k. record { records = k.records.items; entries = k.entries.items }) kept
 
 -- what is gathered before anything was done, where this many pages of each member are kept
@@ -32,6 +32,6 @@ EndedWell ended.Answered = Unit {0}
 EndedWell _ = ⊥
 
 -- the lines were answered while the run was gathered, and what is kept at the end goes on from that
-abbrev pub HasRun : Tables → ℕ → Option (List ℕ) → Option (List ℕ) → Option (List ℕ) → Option Kept → Type 0
+abbrev pub HasRun : Tables → ℕ → Option (List ℕ) → Option (List ℕ) → Option (List ℕ) → Option RecordedRun → Type 0
 HasRun roster pages input old new kept = (gathered : Option Gathered) × (end : Ended) × EndedWell end
     × HasAnswered roster (gathered_at_first pages) input old new end gathered × GoesOn gathered (gathered_in kept)

@@ -6,7 +6,7 @@ ghost use Rattle.cluster_process.specs.Names.{cluster_fault_name};
 
 use crate::fault::ClusterFault;
 use crate::judge::Judge;
-use crate::kept::{Kept, Memory};
+use crate::kept::{Memory, RecordedRun};
 use crate::master_thread::MasterThread;
 use crate::node_floors::NodeFloors;
 use crate::stores::Stores;
@@ -100,7 +100,7 @@ pub fn run_cluster<
     history: u32,
     input: I,
     output: &mut O,
-) -> Result<Option<Kept>, ClusterFault>
+) -> Result<Option<RecordedRun>, ClusterFault>
     requires { (2 ≤ workers) × (workers ≤ 8) }
     ensures { IfOk result (HasRun roster.now history (I.remaining input) (O.contents output.old)
         (O.contents output.new)) }
@@ -145,7 +145,7 @@ fn run_nodes<
     master: &MasterThread<P>,
     input: I,
     output: &mut O,
-) -> Result<Option<Kept>, ClusterFault>
+) -> Result<Option<RecordedRun>, ClusterFault>
     ensures { IfOk result (HasRun common.entry.roster.now common.entry.history
         (I.remaining input) (O.contents output.old) (O.contents output.new)) }
 {
@@ -174,7 +174,7 @@ fn answer_watched<
     master: &MasterThread<P>,
     input: I,
     output: &mut O,
-) -> Result<Option<Kept>, ClusterFault>
+) -> Result<Option<RecordedRun>, ClusterFault>
     ensures { IfOk result (HasRun common.now.roster.now common.now.history (I.remaining input)
         (O.contents output.old) (O.contents output.new)) }
 {
@@ -303,7 +303,7 @@ fn answer<I: Read + Drop, O: Write, S: PurgeStore, R: Wait + Clock + RandomSourc
     watch: &Watch,
     input: I,
     output: &mut O,
-) -> Result<Option<Kept>, ClusterFault>
+) -> Result<Option<RecordedRun>, ClusterFault>
     ensures { IfOk result (HasRun common.now.roster.now common.now.history (I.remaining input)
         (O.contents output.old) (O.contents output.new)) }
 {

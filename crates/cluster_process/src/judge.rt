@@ -4,7 +4,7 @@ ghost use Rattle.cluster_console.specs.Checked.{GoesOn, IsChecked};
 ghost use Rattle.cluster_process.specs.Kept.{gathered_in};
 
 use crate::cluster::Running;
-use crate::kept::{Kept, Memory};
+use crate::kept::{Memory, RecordedRun};
 use cluster_console::{Checked, Checker, DeadPeer, MemberState};
 use cluster_master::{HeldMaster, SharedMaster};
 use node_workers::{AskedPeer, CloseCause, StopFault, milliseconds};
@@ -93,7 +93,7 @@ impl<S: PurgeStore> Judge<'_, S> {
 
     /// What is kept of the run until now; none, where some of it cannot be gathered.
     #[tactic(auto, using(crate::proofs::Gathering::kept_as_it_was, crate::proofs::Gathering::dropped))]
-    pub(crate) fn into_kept<R: Wait>(mut self, rt: &R) -> Option<Kept>
+    pub(crate) fn into_kept<R: Wait>(mut self, rt: &R) -> Option<RecordedRun>
         ensures { GoesOn (gathered_in self.entry.memory.kept) (gathered_in result) }
     {
         if self.memory.kept().is_some() && self.gather(rt).is_err() {

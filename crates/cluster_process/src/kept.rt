@@ -13,7 +13,7 @@ use std::alloc::{AllocError, Global};
 
 /// What the members and the master of a hierarchy did, from the start on.
 #[derive(Drop)]
-pub struct Kept {
+pub struct RecordedRun {
     /// The records of the members, those of one member in their order.
     pub records: Vec<Record>,
     /// The master's calls, in their order.
@@ -25,7 +25,7 @@ pub struct Kept {
 pub(crate) struct Memory {
     most: u64,
     /// What is kept.
-    pub(crate) kept: Option<Kept>,
+    pub(crate) kept: Option<RecordedRun>,
 }
 
 /// This many floors, copies and pending requests of a state count as one entry.
@@ -84,7 +84,7 @@ fn is_idle(records: &[Record], next: &Record) -> bool
     next.entries.as_slice().is_empty() && has_record_of(records, next.node)
 }
 
-impl Kept {
+impl RecordedRun {
     /// The size of all that is kept, counted in entries.
     fn weight(&self) -> u64 {
         self.records
@@ -123,7 +123,7 @@ impl Memory {
     pub(crate) fn new(alloc: Global, members: usize, pages: u32) -> Memory
         ensures { gathered_in result.kept ≡ gathered_at_first pages }
     {
-        let kept = Kept {
+        let kept = RecordedRun {
             records: Vec::new(alloc),
             entries: Vec::new(alloc),
         };
@@ -134,14 +134,14 @@ impl Memory {
     }
 
     /// All that was done so far, if it is kept.
-    pub(crate) fn kept(&self) -> Option<&Kept>
+    pub(crate) fn kept(&self) -> Option<&RecordedRun>
         ensures { option_map (λ kept. kept.now) result ≡ self.now.kept }
     {
         self.kept.as_ref()
     }
 
     /// All that was done, if it is kept.
-    pub(crate) fn into_kept(self) -> Option<Kept>
+    pub(crate) fn into_kept(self) -> Option<RecordedRun>
         ensures { result ≡ self.kept }
     {
         self.kept

@@ -37,5 +37,5 @@ mod watch;
 
 pub use cluster::{is_worker_count, run_cluster};
 pub use fault::{ClusterFault, OtherFile};
-pub use kept::Kept;
+pub use kept::RecordedRun;
 pub use stores::{Stores, open_stores};

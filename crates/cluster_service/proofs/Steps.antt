@@ -4,6 +4,7 @@ use Rattle.values_tables.specs.declared.plain.Tables.{Tables}
 use Rattle.http_messages.specs.declared.ask.Ask.{Ask}
 use Rattle.http_messages.specs.declared.fault.FetchFault.{FetchFault}
 use Rattle.node_rules.specs.declared.reply.Begin.{Begin}
+use Rattle.node_rules.specs.declared.reply.Reply.{Reply}
 use Rattle.node_bytes.specs.declared.turns.Turn.{Turn}
 use Rattle.node_http.specs.declared.taking.Taken.{Taken}
 use Rattle.node_http.specs.declared.fault.ServeFault.{ServeFault}
@@ -13,7 +14,7 @@ use Rattle.values_plain.specs.declared.address.Address.{Address}
 use Rattle.values_plain.specs.declared.address.Udp.{Udp}
 use Rattle.node_bytes.specs.Turns.{MeetsOctets}
 use Rattle.cluster_service.specs.Questions.{begins_question}
-use Rattle.cluster_service.specs.Steps.{AsksOnce, Ending, QuestionsView, MeetsQuestion, DealsWith, Takes, Outcome, IsTurnOf, Step, Leads, begun_by, begun_in}
+use Rattle.cluster_service.specs.Steps.{AsksOnce, Ending, QuestionsView, MeetsQuestion, DealsWith, Takes, Outcome, IsTurnAfter, IsTurnAsked, Step, Leads, begun_by, begun_in}
 use Rattle.cluster_service.specs.Steps.{Follow, GoesOn, CarriesOn, turn_after, TakesRequest}
 
 -- Where nothing has begun, no step follows.
@@ -24,11 +25,11 @@ none_follows ends begun (s ∷ steps) h = absurd h
 
 -- What follows the turn of a step follows its outcome.
 pub turn_follows : (ends : Ending) (outcome : Outcome) (turn : Option Turn) (steps : List Step) →
-    IsTurnOf outcome turn → Follow ends (begun_in turn) steps → Follow ends (begun_by outcome) steps
-turn_follows ends (Ok reply) turn steps (inl is) h =
-    subst (λ (t : Option Turn). Follow ends (begun_in t) steps) is h
-turn_follows ends (Ok reply) turn steps (inr is) h =
-    none_follows ends reply.begin steps (subst (λ (t : Option Turn). Follow ends (begun_in t) steps) is h)
+    IsTurnAfter outcome turn → Follow ends (begun_in turn) steps → Follow ends (begun_by outcome) steps
+turn_follows ends (Ok reply) turn steps (told, is, inl whole) h =
+    subst (λ (t : Turn). Follow ends t.begin steps) whole (subst (λ (t : Option Turn). Follow ends (begun_in t) steps) is h)
+turn_follows ends (Ok reply) turn steps (told, is, inr unsent) h =
+    subst (λ (t : Turn). Follow ends t.begin steps) unsent (subst (λ (t : Option Turn). Follow ends (begun_in t) steps) is h)
 turn_follows ends (Err fault) turn steps is h = subst (λ (t : Option Turn). Follow ends (begun_in t) steps) is h
 
 -- A turn without a step after it.
@@ -54,12 +55,10 @@ goes_on takes ends turn next before between after (inr (begun, begins, ended)) (
 
 -- What is to be done after the step of a request.
 asked_turn : (asker : Option ℕ) (outcome : Outcome) (result : Result Taken ServeFault) → IsTaken asker outcome result →
-    IsTurnOf outcome (turn_after result)
-asked_turn asker (Ok reply) result (inl once) = inr (ap turn_after once.is)
-asked_turn asker (Ok reply) result (inr waits) = elim waits.is [
-  | inl h ↦ inl (ap turn_after h)
-  | inr h ↦ inr (ap turn_after h)
-]
+    IsTurnAsked outcome (turn_after result)
+asked_turn asker (Ok reply) result (inl once) =
+    inr (ap turn_after once.is, ap (λ (r : Reply (Unit {0})). r.send) once.alone, ap (λ (r : Reply (Unit {0})). r.begin) once.alone)
+asked_turn asker (Ok reply) result (inr waits) = inl (waits.turn, ap turn_after waits.is, waits.turn_is)
 asked_turn asker (Err fault) result h = ap turn_after h
 
 -- What reading a request leads to.

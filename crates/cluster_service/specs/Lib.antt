@@ -1,3 +1,4 @@
 pub mod Addresses
+pub mod Owed
 pub mod Questions
 pub mod Steps

@@ -15,7 +15,7 @@ use Rattle.node_rules.specs.declared.reply.Serve.{Serve}
 use Rattle.node_rules.specs.declared.reply.StepFault.{StepFault}
 use Rattle.node_rules.specs.State.{serial_of}
 use Rattle.node_bytes.specs.declared.turns.Turn.{Turn}
-use Rattle.node_bytes.specs.Turns.{turn_of, MeetsOctets}
+use Rattle.node_bytes.specs.Turns.{IsTurnOf, MeetsOctets}
 use Rattle.node_http.specs.declared.taking.Taken.{Taken}
 use Rattle.node_http.specs.declared.taking.Taken.TheVariants.{Waits}
 use Rattle.node_http.specs.declared.fault.ServeFault.{ServeFault}
@@ -36,18 +36,18 @@ Outcome = Result (Reply (Unit {0})) StepFault
 abbrev pub Takes : Type 0 → Type 1
 Takes N = N → Event (Unit {0}) → Outcome → N → Type 0
 
--- What is to be done after a step: what its reply says, and nothing where it was refused. If memory for the datagrams
--- is lacking, the step stands and nothing of it is done.
-abbrev pub IsTurnOf : Outcome → Option Turn → Type 0
-IsTurnOf (Ok reply) turn = (turn ≡ Some (turn_of reply)) ⊎ (turn ≡ None)
-IsTurnOf (Err fault) turn = turn ≡ None
+-- What is to be done after a step: what its reply says, and nothing where it was refused. What is served and what
+-- begins is never lost. If memory for the datagrams is lacking, none of them is sent.
+abbrev pub IsTurnAfter : Outcome → Option Turn → Type 0
+IsTurnAfter (Ok reply) turn = (told : Turn) × (turn ≡ Some told) × IsTurnOf reply told
+IsTurnAfter (Err fault) turn = turn ≡ None
 
 -- Exactly one step is taken, with this event, and the turn is that of its outcome.
 pub record TakesOne {N : Type 0} (takes : Takes N) (e : Event (Unit {0})) (before after : N) (turn : Option Turn) :
     Type 0 where
   pub outcome : Outcome
   pub taken : takes before e outcome after
-  pub turn_is : IsTurnOf outcome turn
+  pub turn_is : IsTurnAfter outcome turn
 
 -- No step is taken, and nothing is to be done.
 abbrev pub TakesNone : {N : Type 0} → N → N → Option Turn → Type 0
@@ -147,10 +147,22 @@ abbrev pub turn_after : Result Taken ServeFault → Option Turn
 turn_after (Ok (Waits block turn)) = Some turn
 turn_after _ = None
 
+-- What is to be done after the step of a request: what its reply says; or nothing, where it only serves the sender.
+abbrev pub IsTurnAsked : Outcome → Option Turn → Type 0
+IsTurnAsked (Ok reply) turn = IsTurnAfter (Ok reply) turn ⊎ ((turn ≡ None) × (reply.send ≡ []) × (reply.begin ≡ None))
+IsTurnAsked (Err fault) turn = turn ≡ None
+
+-- Exactly one step is taken, with the event of this request, and the turn is that of its outcome.
+pub record AsksOne {N : Type 0} (takes : Takes N) (e : Event (Unit {0})) (before after : N) (turn : Option Turn) :
+    Type 0 where
+  pub outcome : Outcome
+  pub taken : takes before e outcome after
+  pub turn_is : IsTurnAsked outcome turn
+
 -- One step with a request, as the event of a client or of the member that it names; or none.
 abbrev pub TakesRequest : {N : Type 0} → Takes N → Tables → ℕ → N → N → Option Turn → Type 0
 TakesRequest takes roster id before after turn = TakesNone before after turn
-    ⊎ ((ask : Ask) × (now : ℕ) × TakesOne takes (event_by (asker_of roster id ask.member) ask now) before after turn)
+    ⊎ ((ask : Ask) × (now : ℕ) × AsksOne takes (event_by (asker_of roster id ask.member) ask now) before after turn)
 
 -- The step at the end of a fetch: the response, or the failure.
 abbrev pub EndsFetch : {N : Type 0} → Takes N → Fetched → N → N → Option Turn → Type 0
@@ -165,6 +177,7 @@ TakesJob takes roster id (job.Stream number stream octets) before after turn =
     TakesRequest takes roster id before after turn
 TakesJob takes roster id (job.Timer serial) before after turn = EndsRound takes serial before after turn
 TakesJob takes roster id (job.Fetched f) before after turn = EndsFetch takes f before after turn
+TakesJob takes roster id (job.Failed serial) before after turn = FailsFetch takes serial before after turn
 
 -- The event by which a thread gives up what has begun: the time of the round is over, or the fetch has failed.
 abbrev pub given_up : Begin → ℕ → Event (Unit {0})

@@ -13,25 +13,30 @@
 //! stand on the seats. They share a [`Station`]: the tables, the roster, the senders and the loop's
 //! inbox. A [`Gate`] (a trait) is called before an origin is read. No lock is held while a socket
 //! is waited for. A request may take the roster's `ask_wait`; then its client is told 504
-//! ([`tell_late`]).
+//! ([`tell_late`]). Where the step at the end of a round or a fetch finds no memory, it is owed: it
+//! is noted in the tables, and taken again by a job ([`again`]). So its request gives its place at
+//! the node back.
 //!
 //! Order of reading: `specs/Steps.antt` (which steps each thread takes), `specs/Questions.antt`,
-//! `specs/Addresses.antt`; `src/station.rt` (what is shared); `src/worker.rt`, `src/questions.rt`;
-//! `src/seated.rt` (what workers do with a step); `src/telling.rt`, `src/client.rt` (how a client
-//! is answered); `src/closing.rt`; `src/gate.rt`; `proofs/Steps.antt` (what steps add up to).
+//! `specs/Owed.antt`, `specs/Addresses.antt`; `src/station.rt` (what is shared); `src/worker.rt`,
+//! `src/questions.rt`; `src/seated.rt` (what workers do with a step); `src/owed.rt`;
+//! `src/telling.rt`, `src/client.rt` (how a client is answered); `src/closing.rt`; `src/gate.rt`;
+//! `proofs/Steps.antt` (what steps add up to).
 //!
 //! The crate reads and writes sockets without waiting, reads the clock, and waits at the station's
 //! locks. It starts no thread and opens no listener or connection.
 //!
 //! Contracts say which steps are taken, with which events, and that what is done next is what the
-//! step before it asks for. They also say which octets are a question (`is_question`) and whom a
-//! fetch asks, and where (`fetch_of`). No contract says what is done over sockets, or at which
-//! time: tests show it.
+//! step before it asks for. They also say which octets are a question (`is_question`), whom a fetch
+//! asks, and where (`fetch_of`), and which steps are owed (`owed_by`) and by which job they are
+//! taken again. No contract says what is done over sockets, at which time, or what the tables under
+//! their locks hold, so also not that a step is noted: tests show it.
 #![tactic(auto)]
 
 mod client;
 mod closing;
 mod gate;
+mod owed;
 mod peers;
 mod questions;
 mod seated;
@@ -42,6 +47,7 @@ mod worker;
 pub use client::Client;
 pub use closing::{CloseCause, Closing};
 pub use gate::{Gate, NoGate};
+pub use owed::again;
 pub use peers::peers_of;
 pub use questions::Questions;
 pub use seated::Seated;

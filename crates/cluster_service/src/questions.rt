@@ -146,7 +146,8 @@ impl<N: Stepper + Drop, G: Gate + Drop> AtOnce for Questions<'_, N, G> {
                 self.carry_out(rt, turn);
                 true
             }
-            // (a worker tries again, and answers those who wait if the node has closed)
+            // (no step was taken, or it was refused: a worker tries again, and answers those who
+            // wait if the node has closed)
             Err(_) => false,
         }
     }

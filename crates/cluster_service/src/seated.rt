@@ -5,8 +5,10 @@ ghost use Rattle.cluster_service.specs.Steps.{FailsFetch};
 
 use crate::client::Client;
 use crate::gate::Gate;
+use crate::owed::owed_by;
 use crate::station::{Station, milliseconds, seconds};
 use crate::telling::{refuse_all, tell, tell_client};
+use cluster_waiting::OwedStep;
 use mio::net::TcpStream;
 use node_bytes::{Stepper, Turn};
 use node_rules::{Begin, Event, Serve, StepFault};
@@ -33,16 +35,30 @@ pub struct Seated<'a, N: Stepper + Drop, G: Gate + Drop, R> {
 }
 
 impl<N: Stepper + Drop, G: Gate + Drop, R: Wait + Clock> Seated<'_, N, G, R> {
-    /// Takes a step, and returns what is to be done then.
+    /// Takes a step, and returns what is to be done then. Where the step at the end of a round or a
+    /// fetch finds no memory, it is owed.
     pub(crate) fn step(&mut self, event: Event<()>) -> Option<Turn>
         ensures { TakesOne N.takes event self.old.node self.new.node result }
     {
+        let owed = owed_by(&event);
         match self.node.step(event) {
-            Ok(reply) => Turn::of(self.station.alloc, reply).ok(),
+            Ok(reply) => Some(Turn::of(self.station.alloc, reply)),
             Err(fault) => {
+                self.owe(fault, owed);
                 self.note(fault);
                 None
             }
+        }
+    }
+
+    /// Notes a step that found no memory, so that it is taken again. Until then its request keeps
+    /// its place among those that are pending.
+    fn owe(&self, fault: StepFault, owed: Option<OwedStep>) {
+        if fault != StepFault::NoMemory {
+            return;
+        }
+        if let Some(step) = owed {
+            self.station.tables.note_owed(self.rt, step);
         }
     }
 
@@ -86,7 +102,8 @@ impl<N: Stepper + Drop, G: Gate + Drop, R: Wait + Clock> Seated<'_, N, G, R> {
 
     /// Notes whom the round waits for that begins with a turn, and how long, if one begins. It is
     /// called before the turn is carried out, so that no answer comes earlier. Returns false where
-    /// the round cannot wait.
+    /// the round cannot wait. A round whose questions found no memory has none to send. So it waits
+    /// for no peer, and its time is over at once ([`Seated::begin_round`]).
     pub(crate) fn prepare(&self, turn: &Turn) -> bool {
         match &turn.begin {
             Some(Begin::Round { serial }) => {

@@ -6,7 +6,8 @@ ghost use Rattle.cluster_service.specs.Addresses.{fetch_at, fetch_for, peer_sour
 use crate::client::Client;
 use crate::closing::Closing;
 use crate::gate::Gate;
-use cluster_fetch::{Fetch, ResponseSource};
+use crate::owed::end_of;
+use cluster_fetch::{FetchRequest, ResponseSource};
 use cluster_sockets::{Delivery, Errand, Inbox, Senders};
 use cluster_waiting::{PeerTable, WaitTables};
 use htcp_wire::{Content, HtcpFault, TST};
@@ -15,7 +16,7 @@ use icp_wire::IcpFault;
 use node_bytes::{Packet, Turn};
 use node_rules::{Begin, Serve};
 use roster::{Address, Cache, Roster, Udp};
-use std::alloc::Global;
+use std::alloc::{AllocError, Global};
 use std::sync::atomic::{AtomicBool, AtomicU64, Ordering};
 use std::sync::{Arc, Wait};
 use std::time::{Clock, Duration, Instant};
@@ -32,7 +33,8 @@ pub struct Numbered {
 /// What the threads of a node share beside the node itself.
 #[derive(Drop)]
 pub struct Station<G: Drop> {
-    /// The clients that wait, the answers that came before their clients, and the rounds that wait.
+    /// The clients that wait, the answers that came before their clients, the rounds that wait, and
+    /// the steps that are owed.
     pub tables: WaitTables<Client, Numbered>,
     /// The number of the next response of a request that waits.
     pub(crate) next: AtomicU64,
@@ -129,7 +131,7 @@ pub(crate) fn source_of(roster: &Roster, peer: u8) -> Option<(ResponseSource, Ad
 
 /// The fetch that begins: whom it asks, and where. None begins with a round, nor where the roster
 /// has no such peer or origin.
-pub(crate) fn fetch_of(roster: &Roster, begin: Begin) -> Option<Fetch>
+pub(crate) fn fetch_of(roster: &Roster, begin: Begin) -> Option<FetchRequest>
     ensures { result ≡ fetch_for roster.now begin }
 {
     match begin {
@@ -143,11 +145,11 @@ pub(crate) fn fetch_of(roster: &Roster, begin: Begin) -> Option<Fetch>
 }
 
 /// A fetch from this source at this address.
-fn fetch_from(from: (ResponseSource, Address), serial: u32, ask: Ask) -> Option<Fetch>
+fn fetch_from(from: (ResponseSource, Address), serial: u32, ask: Ask) -> Option<FetchRequest>
     ensures { result ≡ Some (fetch_at from serial ask) }
 {
     let (source, at) = from;
-    Some(Fetch {
+    Some(FetchRequest {
         source,
         serial,
         at,
@@ -159,6 +161,7 @@ impl<G: Gate + Drop> Station<G> {
     /// The station of a member of the roster, with its peers, the senders of its sockets and the
     /// inbox of its event loop; nobody waits yet. `is_stopped` is set once the node is to stop.
     /// `closing` is told of a fault that closes the node, and `gate` of each read of an origin.
+    /// `AllocError` comes where there is no memory for the steps that may be owed.
     pub fn new(
         alloc: Global,
         roster: Roster,
@@ -169,11 +172,11 @@ impl<G: Gate + Drop> Station<G> {
         is_stopped: Arc<AtomicBool, Global>,
         closing: Arc<Closing, Global>,
         gate: Arc<G, Global>,
-    ) -> Station<G>
+    ) -> Result<Station<G>, AllocError>
         requires { is_member roster id ≡ true }
     {
-        Station {
-            tables: WaitTables::new(alloc),
+        Ok(Station {
+            tables: WaitTables::new(alloc)?,
             next: AtomicU64::new(0),
             peers,
             inbox,
@@ -184,7 +187,7 @@ impl<G: Gate + Drop> Station<G> {
             closing,
             is_stopped,
             gate,
-        }
+        })
     }
 }
 
@@ -250,8 +253,8 @@ impl<G: Drop> Station<G> {
     }
 
     /// Sends, serves and begins what a turn asks for, on the thread of the event loop: a round
-    /// waits, a fetch is left in the inbox, and so is a response. Where there is no memory for
-    /// that, it is lost, as a reply is for which there is none.
+    /// waits, a fetch is left in the inbox, and so is a response. Where one of the first two cannot
+    /// begin, its end is owed. A response for which there is no memory is lost.
     pub(crate) fn carry_out<R: Wait + Clock>(&self, rt: &R, turn: Turn) {
         let Turn { serve, send, begin } = turn;
         self.send_all(send.as_slice());
@@ -319,13 +322,25 @@ impl<G: Drop> Station<G> {
         }
     }
 
-    /// Has a round wait, or leaves a fetch in the inbox.
+    /// Has a round wait, or leaves a fetch in the inbox. Where it cannot, the end of that is owed:
+    /// no step is taken here.
     fn leave_begin<R: Wait + Clock>(&self, rt: &R, begin: Begin) {
-        if let Begin::Round { serial } = &begin {
-            let _ = self.begin_wait(rt, *serial);
+        let end = end_of(&begin);
+        let is_left = match begin {
+            Begin::Round { serial } => self.begin_wait(rt, serial),
+            fetch => self.leave_fetch(rt, fetch),
+        };
+        if !is_left {
+            self.tables.note_owed(rt, end);
         }
-        if let Some(fetch) = fetch_of(&self.roster, begin) {
-            let _ = self.inbox.put(rt, Errand::Fetch(fetch));
+    }
+
+    /// Leaves a fetch in the inbox. Returns whether it is left: not where the roster has no such
+    /// peer or origin, or where there is no memory for it.
+    pub(crate) fn leave_fetch<R: Wait>(&self, rt: &R, begin: Begin) -> bool {
+        match fetch_of(&self.roster, begin) {
+            Some(fetch) => self.inbox.put(rt, Errand::Fetch(fetch)).is_ok(),
+            None => false,
         }
     }
 

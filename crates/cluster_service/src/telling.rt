@@ -109,7 +109,7 @@ pub fn refuse_job<G: Gate + Drop, R: Wait + Clock>(
 ) {
     match job {
         Job::Stream { stream, .. } => tell(rt, station, kept, stream, status(503), true),
-        Job::Datagram { .. } | Job::Timer { .. } | Job::Fetched(_) => {}
+        Job::Datagram { .. } | Job::Timer { .. } | Job::Fetched(_) | Job::Failed { .. } => {}
     }
 }
 

@@ -9,11 +9,10 @@ ghost use Rattle.cluster_service.specs.Steps.{CarriesOn, HandsOver, begun_in};
 use crate::client::Client;
 use crate::gate::Gate;
 use crate::seated::{MOST_FURTHER_STEPS, Seated};
-use crate::station::{Station, fetch_of, milliseconds, seconds};
+use crate::station::{Station, milliseconds, seconds};
 use crate::telling::{begin_ask, status};
 use cluster_fetch::{Fetched, ResponseSource};
 use cluster_jobs::Job;
-use cluster_sockets::Errand;
 use mio::net::TcpStream;
 use node_bytes::{Stepper, Turn, on_datagram};
 use node_http::{ServeFault, Taken, status_for, take_ask};
@@ -88,6 +87,7 @@ impl<N: Stepper + Drop, G: Gate + Drop, R: Wait + Clock> Worker<'_, N, G, R> {
             Job::Stream { stream, octets, .. } => self.take_stream(stream, octets.as_slice()),
             Job::Timer { serial } => self.seated.expire(serial),
             Job::Fetched(fetched) => self.take_fetched(fetched),
+            Job::Failed { serial } => self.seated.fail(serial),
         }
     }
 
@@ -246,14 +246,7 @@ impl<N: Stepper + Drop, G: Gate + Drop, R: Wait + Clock> Worker<'_, N, G, R> {
         if let Begin::Read { serial, .. } = &begin {
             station.gate.before_read(self.seated.rt, *serial);
         }
-        let is_left = match fetch_of(&station.roster, begin) {
-            Some(fetch) => station
-                .inbox
-                .put(self.seated.rt, Errand::Fetch(fetch))
-                .is_ok(),
-            None => false,
-        };
-        if is_left {
+        if station.leave_fetch(self.seated.rt, begin) {
             return None;
         }
         self.seated.fail(serial)

@@ -8,12 +8,13 @@ use Rattle.cluster_jobs.specs.Order.{sight_of, Begins}
 use Rattle.cluster_sockets.specs.declared.putting.Come.{Come}
 use Rattle.cluster_sockets.specs.declared.putting.Come.TheVariants.{Taken, Nothing}
 
--- the job came over a socket: it is a datagram, a stream or a fetch that has ended, and no timer
+-- the job came over a socket: it is a datagram, a stream or a fetch that has ended, and no timer and no failed fetch
 abbrev pub HasCome : Sight → Type 0
 HasCome (sight.Datagram sender udp from octets) = Unit {0}
 HasCome (sight.Stream number) = Unit {0}
 HasCome (sight.Timer serial) = ⊥
 HasCome (sight.Fetched f) = Unit {0}
+HasCome (sight.Failed serial) = ⊥
 
 -- the pass has seen more steps, and its own new ones are puts of jobs that came over a socket
 pub record HasPut (before after : View) : Type 0 where

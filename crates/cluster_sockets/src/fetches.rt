@@ -4,7 +4,7 @@ ghost use Rattle.http_writing.specs.Name.{is_name as names_cache};
 ghost use Rattle.cluster_sockets.specs.Counts.{gets_place as may_have_one};
 
 use crate::at_once::AtOnce;
-use cluster_fetch::{Fetch, Fetched, Fetching};
+use cluster_fetch::{FetchRequest, Fetched, Fetching};
 use http_messages::Answer;
 use mio::{Registry, Token};
 use slab::Slab;
@@ -22,21 +22,21 @@ pub(crate) const MOST_FETCHES: usize = 1024;
 
 /// How many fetches wait for their turn at one address at most. Further ones fail at once, so that
 /// an address that does not answer leaves room for the requests of others.
-const MOST_IN_LINE: usize = 512;
+const MOST_IN_QUEUE: usize = 512;
 
 /// The fetches from one address: how many are under way, and those that wait for their turn.
 #[derive(Drop)]
-struct Line {
+struct AddressQueue {
     at: Address,
     under_way: u64,
-    waiting: VecDeque<Fetch>,
+    waiting: VecDeque<FetchRequest>,
 }
 
-/// A fetch under way, and the place of its line.
+/// A fetch under way, and the place of its queue.
 #[derive(Drop)]
 struct Placed {
     fetching: Fetching,
-    line: usize,
+    queue: usize,
 }
 
 /// Whether an address gets one place more that has this many: fewer than it may have at most, and
@@ -47,22 +47,22 @@ pub(crate) fn gets_place(most: u64, free: u64, own: u64) -> bool
     own < most.min(free)
 }
 
-/// The fetches of a node. Each address has a line of its own, so one that does not answer holds up
+/// The fetches of a node. Each address has a queue of its own, so one that does not answer holds up
 /// its own fetches alone. Of the 1,024 places an address gets one more only while more are free
-/// than it has. The lines take turns.
+/// than it has. The queues take turns.
 #[derive(Drop)]
 pub(crate) struct Fetches {
     alloc: Global,
     under_way: Slab<Placed>,
-    lines: Vec<Line>,
+    queues: Vec<AddressQueue>,
     ready: VecDeque<usize>,
-    /// Whether a line in which fetches wait may have room.
+    /// Whether a queue in which fetches wait may have room.
     may_begin: bool,
-    /// The place of the line whose turn is next.
+    /// The place of the queue whose turn is next.
     turn: usize,
     /// Where the look for late fetches goes on.
     looked: usize,
-    /// The line at which the look for fetches that nobody waits for goes on.
+    /// The queue at which the look for fetches that nobody waits for goes on.
     combed: usize,
     first_token: usize,
     /// Whether a fetch lacked a descriptor since this was last asked.
@@ -80,7 +80,7 @@ impl Fetches {
         Fetches {
             alloc,
             under_way: Slab::new(alloc),
-            lines: Vec::new(alloc),
+            queues: Vec::new(alloc),
             ready: VecDeque::new(alloc),
             may_begin: false,
             turn: 0,
@@ -107,7 +107,7 @@ impl Fetches {
 
     /// Whether some may go on without waiting.
     pub(crate) fn has_more(&self) -> bool {
-        let looks = self.looked < MOST_FETCHES || self.combed < self.lines.len();
+        let looks = self.looked < MOST_FETCHES || self.combed < self.queues.len();
         self.may_begin || !self.ready.is_empty() || looks
     }
 
@@ -117,17 +117,17 @@ impl Fetches {
         self.combed = 0;
     }
 
-    /// The place of the line of an address.
-    fn line_of(&mut self, at: Address) -> Result<usize, AllocError> {
-        if let Some(place) = self.lines.iter().position(|line| line.at == at) {
+    /// The place of the queue of an address.
+    fn queue_of(&mut self, at: Address) -> Result<usize, AllocError> {
+        if let Some(place) = self.queues.iter().position(|queue| queue.at == at) {
             return Ok(place);
         }
-        self.lines.push(Line {
+        self.queues.push(AddressQueue {
             at,
             under_way: 0,
             waiting: VecDeque::new(self.alloc),
         })?;
-        Ok(self.lines.len().saturating_sub(1))
+        Ok(self.queues.len().saturating_sub(1))
     }
 
     /// Begins a fetch, or has it wait for its turn. It comes back as one that has ended where it
@@ -138,7 +138,7 @@ impl Fetches {
         rt: &R,
         registry: &Registry,
         at_once: &A,
-        fetch: Fetch,
+        fetch: FetchRequest,
         via: &[u8],
         now: Instant,
     ) -> Option<Fetched>
@@ -147,15 +147,15 @@ impl Fetches {
         if !at_once.is_wanted(rt, fetch.serial) {
             return Some(fetch.into_failed());
         }
-        let Ok(place) = self.line_of(fetch.at) else {
+        let Ok(place) = self.queue_of(fetch.at) else {
             return Some(fetch.into_failed());
         };
         if self.has_room(place) {
             return self.begin(rt, registry, place, fetch, via, now);
         }
-        match self.lines.get_mut(place) {
-            Some(line) if line.waiting.len() >= MOST_IN_LINE => Some(fetch.into_failed()),
-            Some(line) => match line.waiting.push_back(fetch) {
+        match self.queues.get_mut(place) {
+            Some(queue) if queue.waiting.len() >= MOST_IN_QUEUE => Some(fetch.into_failed()),
+            Some(queue) => match queue.waiting.push_back(fetch) {
                 Ok(()) => None,
                 Err(failed) => Some(failed.value.into_failed()),
             },
@@ -163,22 +163,22 @@ impl Fetches {
         }
     }
 
-    /// Whether one more connection may be opened to the address of this line.
+    /// Whether one more connection may be opened to the address of this queue.
     fn has_room(&self, place: usize) -> bool {
         let free = MOST_FETCHES.saturating_sub(self.under_way.len()) as u64;
-        match self.lines.get(place) {
-            Some(line) => gets_place(self.most_of_address, free, line.under_way),
+        match self.queues.get(place) {
+            Some(queue) => gets_place(self.most_of_address, free, queue.under_way),
             None => false,
         }
     }
 
-    /// Begins a fetch of this line.
+    /// Begins a fetch of this queue.
     fn begin<R: Net>(
         &mut self,
         net: &R,
         registry: &Registry,
-        line: usize,
-        fetch: Fetch,
+        queue: usize,
+        fetch: FetchRequest,
         via: &[u8],
         now: Instant,
     ) -> Option<Fetched>
@@ -186,7 +186,7 @@ impl Fetches {
     {
         let until = now.checked_add(self.patience).unwrap_or(now);
         match Fetching::begin(net, self.alloc, fetch, via, until) {
-            Ok(fetching) => self.keep(registry, Placed { fetching, line }),
+            Ok(fetching) => self.keep(registry, Placed { fetching, queue }),
             Err(failed) => {
                 self.has_lacked = self.has_lacked || failed.lacks_descriptor;
                 Some(failed.fetched)
@@ -198,14 +198,14 @@ impl Fetches {
     /// side, where the poll does not take it, or there is no memory.
     fn keep(&mut self, registry: &Registry, mut placed: Placed) -> Option<Fetched> {
         let token = Token(self.first_token.saturating_add(self.under_way.vacant_key()));
-        let line = placed.line;
+        let queue = placed.queue;
         if placed.fetching.register(registry, token).is_err() {
             return Some(placed.fetching.into_lacked());
         }
         match self.under_way.insert(placed) {
             Ok(_) => {
-                if let Some(line) = self.lines.get_mut(line) {
-                    line.under_way = line.under_way.saturating_add(1);
+                if let Some(queue) = self.queues.get_mut(queue) {
+                    queue.under_way = queue.under_way.saturating_add(1);
                 }
                 None
             }
@@ -215,10 +215,13 @@ impl Fetches {
 
     /// Takes out the fetch under this key, which has ended.
     fn end(&mut self, registry: &Registry, key: usize, answer: Option<Answer>) -> Option<Fetched> {
-        let Placed { mut fetching, line } = self.under_way.try_remove(key)?;
+        let Placed {
+            mut fetching,
+            queue,
+        } = self.under_way.try_remove(key)?;
         fetching.deregister(registry);
-        if let Some(line) = self.lines.get_mut(line) {
-            line.under_way = line.under_way.saturating_sub(1);
+        if let Some(queue) = self.queues.get_mut(queue) {
+            queue.under_way = queue.under_way.saturating_sub(1);
         }
         self.may_begin = true;
         Some(fetching.into_fetched(answer))
@@ -230,21 +233,21 @@ impl Fetches {
         self.end(registry, key, answer)
     }
 
-    /// Whether a fetch waits in this line, and there is room for it.
+    /// Whether a fetch waits in this queue, and there is room for it.
     fn is_due(&self, place: usize) -> bool {
-        match self.lines.get(place) {
-            Some(line) => !line.waiting.is_empty() && self.has_room(place),
+        match self.queues.get(place) {
+            Some(queue) => !queue.waiting.is_empty() && self.has_room(place),
             None => false,
         }
     }
 
-    /// Takes out the next fetch that waits and for which there is room, with the place of its line.
-    /// The lines take turns.
-    fn next_turn(&mut self) -> Option<(usize, Fetch)> {
+    /// Takes out the next fetch that waits and for which there is room, with the place of its
+    /// queue. The queues take turns.
+    fn next_turn(&mut self) -> Option<(usize, FetchRequest)> {
         if !self.may_begin {
             return None;
         }
-        let count = self.lines.len();
+        let count = self.queues.len();
         let first = self.turn.min(count);
         let Some(place) = (first..count)
             .chain(0..first)
@@ -254,7 +257,7 @@ impl Fetches {
             return None;
         };
         self.turn = place.saturating_add(1);
-        let fetch = self.lines.get_mut(place)?.waiting.pop_front()?;
+        let fetch = self.queues.get_mut(place)?.waiting.pop_front()?;
         Some((place, fetch))
     }
 
@@ -265,7 +268,7 @@ impl Fetches {
         rt: &R,
         registry: &Registry,
         at_once: &A,
-        next: (usize, Fetch),
+        next: (usize, FetchRequest),
         via: &[u8],
         now: Instant,
     ) -> Option<Fetched>
@@ -306,7 +309,7 @@ impl Fetches {
     }
 
     /// Goes on with a look: gives the next fetch that it finds to have ended. First are those under
-    /// way, and then those that are first in their lines and that nobody waits for.
+    /// way, and then those that are first in their queues and that nobody waits for.
     pub(crate) fn next_found<A: AtOnce, R: Wait>(
         &mut self,
         rt: &R,
@@ -320,12 +323,12 @@ impl Fetches {
         }
     }
 
-    /// Takes out the next fetch that is the first in its line and whose client no longer waits, or
+    /// Takes out the next fetch that is the first in its queue and whose client no longer waits, or
     /// has gone away. It has failed.
     fn next_unwanted<A: AtOnce, R: Wait>(&mut self, rt: &R, at_once: &A) -> Option<Fetched> {
-        for place in self.combed..self.lines.len() {
+        for place in self.combed..self.queues.len() {
             self.combed = place;
-            let waiting = &mut self.lines.get_mut(place)?.waiting;
+            let waiting = &mut self.queues.get_mut(place)?.waiting;
             match waiting.front() {
                 Some(fetch) if !at_once.is_there(rt, fetch.serial) => {
                     return Some(waiting.pop_front()?.into_failed());
@@ -333,7 +336,7 @@ impl Fetches {
                 _ => {}
             }
         }
-        self.combed = self.lines.len();
+        self.combed = self.queues.len();
         None
     }
 

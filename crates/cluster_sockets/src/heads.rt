@@ -26,7 +26,7 @@ pub(crate) enum Reading {
 
 /// A connection, and what was read of it.
 #[derive(Drop)]
-pub(crate) struct Head {
+pub(crate) struct HeadReading {
     number: u64,
     ip: u32,
     stream: TcpStream,
@@ -35,7 +35,7 @@ pub(crate) struct Head {
     since: Instant,
 }
 
-impl Head {
+impl HeadReading {
     /// A connection from an IPv4 address that was accepted at this moment, before anything is read
     /// of it.
     pub(crate) fn new(
@@ -44,8 +44,8 @@ impl Head {
         ip: u32,
         stream: TcpStream,
         since: Instant,
-    ) -> Head {
-        Head {
+    ) -> HeadReading {
+        HeadReading {
             number,
             ip,
             stream,
@@ -135,7 +135,7 @@ impl Head {
     pub(crate) fn into_job(self) -> Job
         ensures { HasCome (sight_of result) }
     {
-        let Head {
+        let HeadReading {
             number,
             ip: _,
             stream,

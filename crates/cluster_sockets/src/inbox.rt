@@ -1,6 +1,6 @@
 //! What other threads leave to the event loop.
 use crate::delivery::Delivery;
-use cluster_fetch::Fetch;
+use cluster_fetch::FetchRequest;
 use cluster_waiting::Queue;
 use mio::Waker;
 use std::alloc::{AllocError, Global};
@@ -12,7 +12,7 @@ pub enum Errand {
     /// A response that its client has not taken whole.
     Deliver(Delivery),
     /// A fetch to begin.
-    Fetch(Fetch),
+    Fetch(FetchRequest),
 }
 
 /// Where threads leave errands to the event loop, first in, first out.

@@ -1,25 +1,26 @@
-//! How many of the connections that wait come from each address.
+//! How many connections come from each address: those that wait, or those of responses under way.
 ghost use Rattle.std.specs.Prelude.{◌≡◌, ◌<◌, ◌+◌, true, false, pred};
 ghost use Rattle.cluster_sockets.specs.Counts.{count_at, goes_first};
 
 use std::alloc::Global;
 use std::collections::BTreeMap;
 
-/// How many of the connections that wait come from each IPv4 address.
+/// How many connections come from each IPv4 address: those whose requests wait, or those of responses
+/// under way.
 #[derive(Drop)]
 pub(crate) struct PerAddress {
     counts: BTreeMap<u32, u32>,
 }
 
 impl PerAddress {
-    /// None waits. It takes no memory.
+    /// No connections. It takes no memory.
     pub(crate) fn new(alloc: Global) -> PerAddress {
         PerAddress {
             counts: BTreeMap::new(alloc),
         }
     }
 
-    /// How many connections of an address wait.
+    /// How many connections of an address are counted.
     pub(crate) fn count(&self, ip: u32) -> u32
         ensures { result ≡ count_at self.now.counts ip }
     {

@@ -4,7 +4,7 @@ ghost use Rattle.cluster_jobs.specs.Order.{sight_of};
 ghost use Rattle.cluster_sockets.specs.Polls.{HasCome, HasPut, IsSound};
 
 use crate::fault::LoopFault;
-use crate::heads::{Head, Reading};
+use crate::heads::{HeadReading, Reading};
 use crate::per_address::PerAddress;
 use crate::putting::{Come, put};
 use cluster_fetch::is_want_of_descriptors;
@@ -39,7 +39,7 @@ pub(crate) struct Streams {
     alloc: Global,
     listener: TcpListener,
     is_ready: bool,
-    heads: Slab<Head>,
+    heads: Slab<HeadReading>,
     per_address: PerAddress,
     most_of_address: u32,
     came: Vec<usize>,
@@ -107,7 +107,7 @@ impl Streams {
     fn refuse_job(&mut self, job: Job) {
         match job {
             Job::Stream { stream, .. } => self.refuse(stream, true),
-            Job::Datagram { .. } | Job::Timer { .. } | Job::Fetched(_) => {}
+            Job::Datagram { .. } | Job::Timer { .. } | Job::Fetched(_) | Job::Failed { .. } => {}
         }
     }
 
@@ -135,7 +135,7 @@ impl Streams {
     }
 
     /// Takes out the connection under this key, if it waits.
-    fn remove(&mut self, key: usize) -> Option<Head> {
+    fn remove(&mut self, key: usize) -> Option<HeadReading> {
         let head = self.heads.try_remove(key)?;
         self.per_address.remove(head.ip());
         Some(head)
@@ -297,7 +297,7 @@ impl Streams {
 
     /// Keeps a connection until more has come of it. It is closed where the poll does not take it,
     /// and refused where there is no memory to count it.
-    fn keep(&mut self, registry: &Registry, head: Head, now: Instant) {
+    fn keep(&mut self, registry: &Registry, head: HeadReading, now: Instant) {
         let ip = head.ip();
         self.make_room(registry, ip, now);
         if !self.per_address.add(ip) {
@@ -328,7 +328,7 @@ impl Streams {
     ) -> Option<Job>
         ensures { IfSome result (λ job. HasCome (sight_of job)) }
     {
-        let mut head = Head::new(self.alloc, self.number, from.ip, stream, now);
+        let mut head = HeadReading::new(self.alloc, self.number, from.ip, stream, now);
         self.number = self.number.wrapping_add(1);
         match head.read() {
             Reading::Came => Some(head.into_job()),

@@ -1,3 +1,4 @@
 pub mod Names
+pub mod Owed
 pub mod Peers
 pub mod Waiting

@@ -9,7 +9,7 @@ use std::collections::BTreeMap;
 use std::marker::Model;
 
 /// How many clients, and how many answers, are kept at most. A node has 1,024 pending requests at
-/// most, and each of its 17 threads may hold one more whose request has just ended.
+/// most, and each of its threads (9 at most) may hold one more whose request has just ended.
 pub const MOST_WAITING: usize = 1056;
 
 /// Clients that wait for their answers, and answers that came before their clients, each under the

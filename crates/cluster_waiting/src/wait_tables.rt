@@ -2,6 +2,7 @@
 use crate::clients::WaitingClients;
 use crate::fault::HandedBack;
 use crate::outstanding::Outstanding;
+use crate::owed::{OwedStep, OwedSteps};
 use crate::rounds::Rounds;
 use std::alloc::{AllocError, Global};
 use std::sync::{Mutex, Wait};
@@ -17,25 +18,28 @@ pub trait Waits {
 }
 
 /// The waiting clients with the early answers, the waiting rounds, the peers that each round waits
-/// for, and the deadlines of requests, each under a lock of its own. No function holds two locks at
-/// once.
+/// for, the deadlines of requests, and the steps that are owed, each under a lock of its own. No
+/// function holds two locks at once.
 #[derive(Drop)]
 pub struct WaitTables<C: Drop, A: Drop> {
     clients: Mutex<WaitingClients<C, A>>,
     rounds: Mutex<Rounds>,
     outstanding: Mutex<Outstanding>,
     asks: Mutex<Rounds>,
+    owed: Mutex<OwedSteps>,
 }
 
 impl<C: Drop, A: Drop> WaitTables<C, A> {
-    /// Empty tables. It takes no memory.
-    pub fn new(alloc: Global) -> WaitTables<C, A> {
-        WaitTables {
+    /// Empty tables. `AllocError` comes where there is no memory for 1,024 steps that are owed.
+    pub fn new(alloc: Global) -> Result<WaitTables<C, A>, AllocError> {
+        let owed = OwedSteps::new(alloc)?;
+        Ok(WaitTables {
             clients: Mutex::new(WaitingClients::new(alloc)),
             rounds: Mutex::new(Rounds::new(alloc)),
             outstanding: Mutex::new(Outstanding::new(alloc)),
             asks: Mutex::new(Rounds::new(alloc)),
-        }
+            owed: Mutex::new(owed),
+        })
     }
 
     /// [`WaitingClients::clients`] under the lock.
@@ -149,5 +153,15 @@ impl<C: Drop, A: Drop> WaitTables<C, A> {
     /// The peers that a round still waits for: [`Outstanding::end`] under the lock.
     pub fn left<R: Wait>(&self, rt: &R, serial: u32) -> u32 {
         self.outstanding.lock(rt).end(serial).unwrap_or(0)
+    }
+
+    /// [`OwedSteps::note`] under the lock.
+    pub fn note_owed<R: Wait>(&self, rt: &R, step: OwedStep) {
+        self.owed.lock(rt).note(step);
+    }
+
+    /// [`OwedSteps::take`] under the lock.
+    pub fn take_owed<R: Wait>(&self, rt: &R) -> Option<OwedStep> {
+        self.owed.lock(rt).take()
     }
 }

@@ -1,7 +1,10 @@
 -- Of fields: read `Named` (fields of one name), then `Keeping` (the loop of `kept_fields`) and
--- `HeadFields` (no `BadHead` for a head of the grammar); `Digits` is about numbers, `Octets` about URIs.
+-- `HeadFields` (no `BadHead` for a head of the grammar); `Digits` is about numbers, `Octets` about URIs,
+-- `CodingLemmas` about lists of transfer codings, `Heads` about the versions of responses.
 pub mod Digits
 pub mod Octets
+pub mod CodingLemmas
+pub mod Heads
 pub mod Named
 pub mod Keeping
 pub mod HeadFields

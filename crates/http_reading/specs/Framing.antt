@@ -1,12 +1,16 @@
 -- The length of the body after a head (RFC 9112, sections 6.1 to 6.3).
-use Rattle.std.specs.Prelude.{ℕ, Bool, true, false, not, ◌&&◌, ◌||◌, ◌==◌, nat_le, bytes_eq, List, [], ◌∷◌, length, codes, Option, Some, None, Result, Ok, Err}
-use Rattle.std.specs.Prelude.{if◌then◌else◌}
+use Rattle.std.specs.Prelude.{ℕ, Bool, true, false, not, ◌&&◌, ◌||◌, ◌==◌, nat_lt, nat_le, bytes_eq, List, [], ◌∷◌, length, codes, Option, Some, None, Result, Ok, Err}
+use Rattle.std.specs.Prelude.{map, filter, flat_map, if◌then◌else◌}
 use Rattle.std.specs.List.{list_all, list_any}
 use Rattle.std.specs.Str.{str_eq_ignore_ascii_case}
 use Rattle.std.specs.Str.Parse.{digits_value}
 use Rattle.http_messages.specs.declared.fault.FetchFault.{FetchFault}
 use Rattle.http_messages.specs.declared.fault.FetchFault.TheVariants.{BadBody, BodyTooLong}
 use Rattle.http_messages.specs.Answer.{longest_body}
+use Rattle.http_lists.specs.Members.{members}
+use Rattle.http_lists.specs.Blanks.{trim}
+use Rattle.http_reading.specs.declared.codings.Codings.{Codings}
+use Rattle.http_reading.specs.declared.codings.Codings.TheVariants.{Nothing, OneChunked, Other}
 use Rattle.http_reading.specs.declared.framing.BadLength.{BadLength}
 use Rattle.http_reading.specs.declared.framing.BadCoding.{BadCoding}
 use Rattle.http_reading.specs.declared.framing.Framing.{Framing}
@@ -33,12 +37,40 @@ length_told (value ∷ others) = if is_length value && list_all (λ other. bytes
 abbrev pub content_length : List (List ℕ × List ℕ) → Result (Option ℕ) BadLength
 content_length fields = length_told (values_named (codes "content-length") fields)
 
--- chunked or not, by these `transfer-encoding` values: none, or a single `chunked`, ignoring case
+-- the transfer codings that these members of lists are, without the blanks around them; an empty member
+-- is none (RFC 9110, section 5.6.1.2)
+abbrev pub codings_of : List (List ℕ) → List (List ℕ)
+codings_of members = filter (λ coding. nat_lt 0 (length coding)) (map trim members)
+
+-- the transfer codings that these values of fields list together (RFC 9110, section 5.3)
+abbrev pub codings : List (List ℕ) → List (List ℕ)
+codings values = codings_of (flat_map members values)
+
+-- what such codings are together: none, a single `chunked`, ignoring case, or anything else
+abbrev pub named_by : List (List ℕ) → Codings
+named_by [] = Nothing
+named_by (coding ∷ []) = if str_eq_ignore_ascii_case coding (codes "chunked") then OneChunked else Other
+named_by (coding ∷ other ∷ others) = Other
+
+-- what two lists of codings are together
+abbrev pub both : Codings → Codings → Codings
+both Nothing second = second
+both OneChunked Nothing = OneChunked
+both OneChunked OneChunked = Other
+both OneChunked Other = Other
+both Other second = Other
+
+-- chunked or not, by what the `transfer-encoding` fields name, where there are such fields
+abbrev pub chunked_told : Codings → Result Bool BadCoding
+chunked_told Nothing = Err (record {})
+chunked_told OneChunked = Ok true
+chunked_told Other = Err (record {})
+
+-- chunked or not, by these `transfer-encoding` values: there are none, or they name a single `chunked`
 -- (RFC 9112, section 6.1)
 abbrev pub coding_told : List (List ℕ) → Result Bool BadCoding
 coding_told [] = Ok false
-coding_told (value ∷ []) = if str_eq_ignore_ascii_case value (codes "chunked") then Ok true else Err (record {})
-coding_told (value ∷ other ∷ others) = Err (record {})
+coding_told (value ∷ others) = chunked_told (named_by (codings (value ∷ others)))
 
 -- chunked or not, by the `transfer-encoding` fields (RFC 9112, section 7.1)
 abbrev pub is_chunked : List (List ℕ × List ℕ) → Result Bool BadCoding

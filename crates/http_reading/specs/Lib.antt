@@ -10,6 +10,7 @@ pub mod Directives
 pub mod Kept
 -- Whole messages, over the files above.
 pub mod Version
+pub mod AnswerVersions
 pub mod AskHead
 pub mod Asks
 pub mod AnswerHead

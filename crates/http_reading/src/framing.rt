@@ -7,6 +7,7 @@ ghost use Rattle.http_reading.specs.Fields.{fields_of, values_named};
 ghost use Rattle.http_reading.specs.Left.{values_left};
 ghost use Rattle.http_reading.specs.Framing as spec;
 
+use crate::codings::{Codings, codings_left};
 use crate::decimal::number_up_to;
 use crate::fields::{Values, all_named, count_named};
 use http_messages::FetchFault;
@@ -35,9 +36,9 @@ pub enum Framing {
 #[error("the content-length fields do not tell one length")]
 pub struct BadLength;
 
-/// The `transfer-encoding` fields are not a single `chunked` (RFC 9112, section 6.1).
+/// The `transfer-encoding` fields do not list `chunked` alone (RFC 9112, section 6.1).
 #[derive(Clone, Copy, Debug, PartialEq, Eq, Error)]
-#[error("the transfer-encoding fields are not one that is chunked")]
+#[error("the transfer-encoding fields do not list chunked alone")]
 pub struct BadCoding;
 
 /// The length in octets that the `content-length` fields give (RFC 9110, section 8.6). `None`:
@@ -80,15 +81,20 @@ fn are_all(mut values: Values<'_, '_>, same: &[u8]) -> bool
 /// Whether the body is chunked (RFC 9112, section 7.1). `false`: there is no `transfer-encoding`
 /// field.
 ///
-/// `BadCoding`: there are several such fields, or the only one is not `chunked` (ignoring case).
+/// Several such fields are one list (RFC 9110, section 5.3), and empty members of a list are
+/// ignored (section 5.6.1.2): `, chunked` is `chunked`.
+///
+/// `BadCoding`: there is such a field, and they do not list `chunked` (ignoring case) once and
+/// nothing else.
 pub fn is_chunked(window: &[u8], headers: &[HeaderSpan]) -> Result<bool, BadCoding>
     ensures { result ≡ spec.is_chunked (fields_of window.now headers.now) }
 {
-    let mut values = all_named(window, headers, b"transfer-encoding");
-    match (values.next(), values.next()) {
-        (None, _) => Ok(false),
-        (Some(value), None) if value.eq_ignore_ascii_case(b"chunked") => Ok(true),
-        _ => Err(BadCoding),
+    if count_named(window, headers, b"transfer-encoding") == 0 {
+        return Ok(false);
+    }
+    match codings_left(all_named(window, headers, b"transfer-encoding")) {
+        Codings::OneChunked => Ok(true),
+        Codings::Nothing | Codings::Other => Err(BadCoding),
     }
 }
 

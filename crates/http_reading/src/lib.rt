@@ -7,6 +7,8 @@
 //!   (`src/version.rt`).
 //! - [`read_answer`] reads a response: it passes over interim heads, then reads a final head and
 //!   its body (`src/answer.rt`, `src/told.rt`: what a head says, `src/body.rt`).
+//! - [`lower_versions`] does for responses, and the interim ones before them, what `lower_version`
+//!   does for requests (`src/answer_versions.rt`).
 //!
 //! Both take the reader from the caller, and read one message. Octets after the message may be
 //! taken from the reader and are lost, so a connection carries one exchange. There is no clock: a
@@ -25,7 +27,7 @@
 //!
 //! - Fields of one name: [`count_named`], [`first_named`], [`only_named`] (`src/fields.rt`).
 //! - Body length: [`framing_of`] of a response, from [`content_length`] and [`is_chunked`];
-//!   [`ask_has_body`] of a request (`src/framing.rt`).
+//!   [`ask_has_body`] of a request (`src/framing.rt`, `src/codings.rt`).
 //! - A request: [`host_of`], [`has_credentials`], [`member`] (`src/ask_fields.rt`),
 //!   [`is_only_if_cached`] and [`is_no_cache`] (`src/directives.rt`).
 //! - A response: [`age`] and [`stamp`] (`src/answer_fields.rt`), and the fields that it keeps,
@@ -49,9 +51,11 @@
 
 mod answer;
 mod answer_fields;
+mod answer_versions;
 mod ask;
 mod ask_fields;
 mod body;
+mod codings;
 mod decimal;
 mod directives;
 mod fields;
@@ -63,6 +67,7 @@ mod version;
 
 pub use answer::read_answer;
 pub use answer_fields::{age, stamp};
+pub use answer_versions::lower_versions;
 pub use ask::read_ask;
 pub use ask_fields::{Host, has_credentials, host_of, member};
 pub use directives::{is_no_cache, is_only_if_cached};

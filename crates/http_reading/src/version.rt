@@ -43,7 +43,7 @@ fn line_end(octets: &[u8]) -> usize
 }
 
 /// The number of octets at the front that are CR or LF.
-fn line_ends(octets: &[u8]) -> usize
+pub(crate) fn line_ends(octets: &[u8]) -> usize
     ensures value { result ≡ spec.blank_length octets.now }
     ensures within { result ≤ length octets.now }
 {

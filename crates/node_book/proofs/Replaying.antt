@@ -1,7 +1,7 @@
 -- A book with one entry more. The node's step is one of the rules for every function that gives the
 -- keys of texts, so for the one that values_keys computes; appended to a replay, it gives a longer
 -- replay.
-use Rattle.std.proofs.Common.{◌≡◌, ℕ, ◌+◌, ◌<◌, ◌≤◌, Option, List, [], ◌∷◌, ◌++◌, length, refl, sym, subst, length-append, arith, Result, ap, ◌∙◌}
+use Rattle.std.proofs.Common.{◌≡◌, ℕ, ◌+◌, ◌<◌, ◌≤◌, Option, List, [], ◌∷◌, ◌++◌, length, refl, sym, subst, length-append, arith, Result, IfOk, ap, ◌∙◌}
 use Rattle.values_keys.specs.KeyOf.{key_of, GivesKeys}
 use Rattle.values_keys.proofs.Outcomes.{gives_keys}
 use Rattle.values_tables.specs.declared.plain.Tables.{Tables}
@@ -11,6 +11,7 @@ use Rattle.node_rules.specs.declared.state.NodeState.{NodeState}
 use Rattle.node_rules.specs.State.{Setting, setting}
 use Rattle.floor_rules.specs.Floors.{FloorTable}
 use Rattle.node_bytes.specs.Nodes.{TakesStep}
+use Rattle.node_bytes.specs.Stepping.{AnswersAsk}
 use Rattle.node_rules.specs.Relation.{Steps}
 use Rattle.node_core.specs.View.{NodeText, IsSameMember, setting_of}
 use Rattle.node_book.specs.declared.book.NodeEntry.{NodeEntry}
@@ -52,12 +53,14 @@ pub is_applied : {S : Type 0} {honest : Type 0} {may_find : FloorTable → Type 
     {event : Event (Unit {0})} {told : Result (Reply (Unit {0})) BookFault} (e : NodeEntry) →
     after.entries ≡ before.entries ++ e ∷ [] → e ≡ record { seat = seat; place = place; event = event; outcome = e.outcome } → after.opening ≡ before.opening →
     after.filed ≡ before.filed → IsToldOf e.outcome told →
-    TakesStep honest may_find have_risen before.node event e.outcome after.node → IsApplied honest may_find have_risen before after seat place event told
-is_applied {before} e behind made opening filed told takes = record {
+    TakesStep honest may_find have_risen before.node event e.outcome after.node → IfOk e.outcome (AnswersAsk event) →
+    IsApplied honest may_find have_risen before after seat place event told
+is_applied {before} e behind made opening filed told takes asks = record {
   outcome = e.outcome;
   entries = behind ∙ ap (λ x. before.entries ++ x ∷ []) made;
   opening = opening;
   filed = filed;
   told_of = told;
   step = takes;
+  asks = asks;
 }

@@ -2,7 +2,7 @@ ghost use Rattle.std.specs.Prelude.{◌≡◌, ◌⊎◌, ◌<◌, ◌≤◌, �
 ghost use Rattle.std.specs.Prelude.{IfErr, Ok, Err};
 ghost use Rattle.std.specs.Vec.{vec_len, vec_capacity};
 ghost use Rattle.floor_rules.specs.Store.{HaveRisen};
-ghost use Rattle.node_book.specs.Book.{IsApplied, IsReplayed, IsToldOf};
+ghost use Rattle.node_book.specs.Book.{IsApplied, IsLastOutcome, IsReplayed, IsToldOf};
 ghost use Rattle.node_book.specs.declared.book.BookFault.TheVariants as faults;
 ghost use Rattle.node_book.specs.Closed.{IsRecorded};
 ghost use Rattle.node_bytes.specs.Stepping.{AnswersAsk};
@@ -47,8 +47,7 @@ pub enum BookFault {
     /// There was no memory for an entry. Nothing is entered, and nothing changes.
     #[error("there was no memory for an entry")]
     NoMemory,
-    /// The step stands and is entered with its reply, but there was no memory for a copy of the
-    /// reply.
+    /// The step stands, but there was no memory for a copy of its reply. The last entry has it.
     #[error("there was no memory for the reply")]
     ReplyLost,
 }
@@ -121,7 +120,8 @@ impl<S: FloorStore> NodeBook<S> {
     ///
     /// Faults that enter nothing and change nothing: `ShiftFull` exactly if the open page is full,
     /// tested first; `NoMemory` if there is no memory for an entry. Faults that are entered: `Step`
-    /// with the fault of the step; `ReplyLost` if the reply could not be copied.
+    /// with the fault of the step; `ReplyLost` if the reply could not be copied, so that only the
+    /// last entry has it ([`NodeBook::into_node_and_last`] gives it).
     pub fn apply(&mut self, seat: u8, place: u64, event: Event<()>) -> Result<Reply<()>, BookFault>
         ensures full { self.old.filed + 4096 ≤ length self.old.entries →
             (result ≡ Err faults.ShiftFull) × (self.new ≡ self.old) }
@@ -234,6 +234,26 @@ impl<S: FloorStore> NodeBook<S> {
         self.node
     }
 
+    /// The node, without its book, and the outcome of the last entry; None if there is no entry. It
+    /// takes no memory.
+    pub fn into_node_and_last(self) -> (Node<(), S>, Option<Result<Reply<()>, StepFault>>)
+        ensures node { result.0 ≡ self.node }
+        ensures last { IsLastOutcome self.entries result.1 }
+        ensures replayed { IsReplayed self }
+    {
+        let NodeBook {
+            alloc: _,
+            node,
+            opening: _,
+            mut entries,
+            filed: _,
+        } = self;
+        match entries.pop() {
+            Some(entry) => (node, Some(entry.outcome)),
+            None => (node, None),
+        }
+    }
+
     /// The entries lead from the opening state to the node's state. It does nothing: its contract
     /// states the law.
     pub fn is_replayed(&self)
@@ -306,7 +326,7 @@ fn stepped<N: Stepper>(
     } }
     ensures takes { N.takes node.old event result.0.outcome node.new }
     ensures told { IsToldOf result.0.outcome result.1 }
-    ensures asks { IfOk result.1 (AnswersAsk event) }
+    ensures asks { IfOk result.0.outcome (AnswersAsk event) }
 {
     let outcome = node.step(event);
     let told = told_of(alloc, &outcome);

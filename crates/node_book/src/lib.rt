@@ -23,8 +23,9 @@
 //! numbers; nothing is said of them here.
 //!
 //! Its only side effect is that of a step: a commit to the node's store. `apply` needs memory for
-//! the entry before the step; if it lacks memory for the reply after the step, the step stands and
-//! is entered (`ReplyLost`).
+//! the entry before the step. If it lacks memory for a copy of the reply after the step, the step
+//! stands, and only the last entry has the reply (`ReplyLost`). [`NodeBook::into_node_and_last`]
+//! gives up the book, and gives that reply without a copy.
 #![tactic(auto)]
 
 mod book;

@@ -20,14 +20,23 @@ packet_of sent = record { by = protocol_of sent.message; to = sent.to; octets = 
 abbrev pub turn_of : Reply (Unit {0}) → Turn
 turn_of reply = record { serve = reply.serve; send = map packet_of reply.send; begin = reply.begin }
 
+-- The same, where memory for the datagrams is lacking: none of them is sent, as any datagram may be
+-- lost on its way.
+abbrev pub unsent_of : Reply (Unit {0}) → Turn
+unsent_of reply = record { serve = reply.serve; send = []; begin = reply.begin }
+
+-- One of the two. Neither loses what is served or begun.
+abbrev pub IsTurnOf : Reply (Unit {0}) → Turn → Type 0
+IsTurnOf reply turn = (turn ≡ turn_of reply) ⊎ (turn ≡ unsent_of reply)
+
 -- Nothing is to be done.
 abbrev pub idle : Turn
 idle = record { serve = None; send = []; begin = None }
 
--- After a step: what its reply says is to be done, or its fault. If memory for the datagrams is
--- lacking, the step stands and nothing of it is done.
+-- After a step: what its reply says is to be done, or its fault. A step that stands is told, whether
+-- or not memory for its datagrams is lacking.
 abbrev pub ToldAfter : Result (Reply (Unit {0})) StepFault → Result Turn StepFault → Type 0
-ToldAfter (Ok reply) result = (result ≡ Ok (turn_of reply)) ⊎ (result ≡ Err NoMemory)
+ToldAfter (Ok reply) result = (turn : Turn) × (result ≡ Ok turn) × IsTurnOf reply turn
 ToldAfter (Err fault) result = result ≡ Err fault
 
 -- One step with an event, taken by this relation between what stood before and after it.

@@ -14,7 +14,6 @@
 //!
 //! - `specs/Bytes`: which octets and which message belong together, by either protocol
 //! - `specs/Turns`: what `on_datagram` does; `src/turns.rt`
-//! - `specs/Packets`: the datagrams of a turn; `src/packets.rt`
 //! - `specs/Nodes`: what a node promises of its step as a `Stepper`; `src/stepper.rt`
 //! - `specs/Stepping`: what a step makes of a request; `src/laws.rt` proves it of the rules
 //! - `specs/Calls`: the master's calls; `src/calls.rt`
@@ -23,20 +22,18 @@
 //! - `proofs/Decoding`: the codecs' laws for either protocol; `proofs/Asks`: the law on requests
 //!
 //! Pure: no socket and no clock; the caller passes octets, sender and time. A contract sees a
-//! `Stepper` by its own relation `takes`. Any call that allocates may fail with `NoMemory` or
-//! `AllocError`; no contract says that memory suffices.
+//! `Stepper` by its own relation `takes`. Any other call that allocates may fail with `NoMemory` or
+//! `AllocError`; `Turn::of` then sends none of the datagrams. No contract says that memory suffices.
 #![tactic(auto)]
 
 mod calls;
 pub mod laws;
-mod packets;
 mod reading;
 mod stepper;
 mod turns;
 mod writing;
 
 pub use calls::master_call_of;
-pub use packets::Packets;
 pub use reading::{event_of, read_htcp, read_icp};
 pub use stepper::Stepper;
 pub use turns::{Packet, Turn, on_datagram};

@@ -1,11 +1,10 @@
 //! What to do after a step, in octets.
 ghost use Rattle.std.specs.Prelude.{◌≡◌, IfOk, map};
-ghost use Rattle.node_bytes.specs.Turns.{packet_of, turn_of, idle, MeetsOctets};
+ghost use Rattle.node_bytes.specs.Turns.{packet_of, IsTurnOf, idle, MeetsOctets};
 
-use crate::packets::Packets;
 use crate::{Stepper, event_of, octets_of};
 use node_rules::{Begin, Outgoing, Reply, Serve, StepFault};
-use roster::{Address, Udp};
+use roster::{Address, Listed, Udp};
 use std::alloc::{AllocError, Global};
 use values_plain::Octets;
 
@@ -26,7 +25,7 @@ pub struct Turn {
     /// What to serve, if anything.
     pub serve: Option<Serve<()>>,
     /// The datagrams to send, in order.
-    pub send: Packets,
+    pub send: Listed<Packet>,
     /// What to begin, if anything.
     pub begin: Option<Begin>,
 }
@@ -38,22 +37,28 @@ impl Turn {
     {
         Turn {
             serve: None,
-            send: Packets::new(Vec::new(alloc)),
+            send: Listed::new(Vec::new(alloc)),
             begin: None,
         }
     }
 
     /// Makes the turn of a reply: its messages as octets with their addresses, in order, and its
     /// serve and its begin as they are.
-    pub fn of(alloc: Global, reply: Reply<()>) -> Result<Turn, AllocError>
-        ensures { IfOk result (λ turn. turn ≡ turn_of reply) }
+    ///
+    /// If memory for the datagrams is lacking, none of them is sent, as any datagram may be lost on
+    /// its way. What is served and begun is never lost.
+    pub fn of(alloc: Global, reply: Reply<()>) -> Turn
+        ensures { IsTurnOf reply result }
     {
-        let send = packets_of(alloc, reply.send.as_slice())?;
-        Ok(Turn {
+        let send = match packets_of(alloc, reply.send.as_slice()) {
+            Ok(packets) => packets,
+            Err(_) => Listed::new(Vec::new(alloc)),
+        };
+        Turn {
             serve: reply.serve,
             send,
             begin: reply.begin,
-        })
+        }
     }
 }
 
@@ -69,12 +74,12 @@ fn packet_of(alloc: Global, sent: &Outgoing) -> Result<Packet, AllocError>
 }
 
 /// Encodes messages, in order. One alone takes no memory beside its octets.
-fn packets_of(alloc: Global, messages: &[Outgoing]) -> Result<Packets, AllocError>
+fn packets_of(alloc: Global, messages: &[Outgoing]) -> Result<Listed<Packet>, AllocError>
     ensures { IfOk result (λ packets. packets ≡ map packet_of messages.now) }
 {
     match messages {
-        [sent] => Ok(Packets::one(packet_of(alloc, sent)?)),
-        _ => Ok(Packets::new(any_packets_of(alloc, messages)?)),
+        [sent] => Ok(Listed::one(packet_of(alloc, sent)?)),
+        _ => Ok(Listed::new(any_packets_of(alloc, messages)?)),
     }
 }
 
@@ -93,8 +98,8 @@ fn any_packets_of(alloc: Global, messages: &[Outgoing]) -> Result<Vec<Packet>, A
 /// returns what to do then. Octets that are no message take no step, and leave nothing to do.
 ///
 /// Faults are those of the step. `NoMemory` may also come before the step, only if the octets are a
-/// message: no step is taken then. Or it comes after the step: the step stands, and what it would
-/// have served, sent and begun is lost.
+/// message: no step is taken then. After a step that stands no fault comes: if memory for its
+/// datagrams is lacking, none of them is sent, and what it serves and begins is told ([`Turn::of`]).
 pub fn on_datagram<N: Stepper>(
     alloc: Global,
     node: &mut N,
@@ -108,7 +113,7 @@ pub fn on_datagram<N: Stepper>(
     match event_of(alloc, by, from, octets, now)? {
         Some(event) => {
             let reply = node.step(event)?;
-            Ok(Turn::of(alloc, reply)?)
+            Ok(Turn::of(alloc, reply))
         }
         None => Ok(Turn::idle(alloc)),
     }

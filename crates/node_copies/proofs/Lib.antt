@@ -1,2 +1,2 @@
--- No lemmas. `replies/copy_of_send` says what its loop has copied so far. `parts/+fields` and
+-- No lemmas. `replies/copy_of_several` says what its loop has copied so far. `parts/+fields` and
 -- `same_replies/+sends` say what falls where a function calls itself.

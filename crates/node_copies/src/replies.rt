@@ -36,18 +36,35 @@ fn copy_of_serve<T: Copy>(
     }
 }
 
-/// Copies the datagrams to send.
-fn copy_of_send(alloc: Global, send: &[Outgoing]) -> Result<Listed<Outgoing>, AllocError>
-    ensures { IfOk result (λ copy. copy ≡ send.now) }
+/// Copies a datagram to send.
+fn copy_of_outgoing(alloc: Global, outgoing: &Outgoing) -> Result<Outgoing, AllocError>
+    ensures { IfOk result (λ copy. copy ≡ outgoing.now) }
+{
+    Ok(Outgoing {
+        to: outgoing.to,
+        message: copy_of_sent(alloc, &outgoing.message)?,
+    })
+}
+
+/// Copies any number of datagrams to send.
+fn copy_of_several(alloc: Global, send: &[Outgoing]) -> Result<Vec<Outgoing>, AllocError>
+    ensures { IfOk result (λ copy. copy.items ≡ send.now) }
 {
     let mut copy = Vec::with_capacity(alloc, send.len())?;
     for outgoing in send {
-        copy.push(Outgoing {
-            to: outgoing.to,
-            message: copy_of_sent(alloc, &outgoing.message)?,
-        })?;
+        copy.push(copy_of_outgoing(alloc, outgoing)?)?;
     }
-    Ok(Listed::new(copy))
+    Ok(copy)
+}
+
+/// Copies the datagrams to send. One alone needs no memory for a list.
+fn copy_of_send(alloc: Global, send: &[Outgoing]) -> Result<Listed<Outgoing>, AllocError>
+    ensures { IfOk result (λ copy. copy ≡ send.now) }
+{
+    match send {
+        [outgoing] => Ok(Listed::one(copy_of_outgoing(alloc, outgoing)?)),
+        _ => Ok(Listed::new(copy_of_several(alloc, send)?)),
+    }
 }
 
 /// Copies what begins, if anything does.

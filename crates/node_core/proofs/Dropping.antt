@@ -6,7 +6,6 @@ use Rattle.std.proofs.Common.{ap, nat_lt}
 use Rattle.std.proofs.Common.{arith}
 use Rattle.std.specs.List.{list_any}
 use Rattle.std.proofs.lemmas.List.Sums.{sum_by-cons}
-use Rattle.htcp_wire.specs.declared.message.Content.TheVariants as content
 use Rattle.std.specs.Prelude.{OnOk}
 use Rattle.object_store.specs.declared.copy.WebCopy.{WebCopy}
 use Rattle.object_store.specs.Listed.{copy_of, is_below, without_below, without_all_below}
@@ -15,12 +14,9 @@ use Rattle.floor_rules.specs.Floors.{FloorTable, new_base, raised, with_base}
 use Rattle.values_plain.specs.declared.address.Address.{Address}
 use Rattle.node_rules.specs.declared.state.NodeState.{NodeState}
 use Rattle.node_rules.specs.declared.reply.Reply.{Reply}
-use Rattle.node_rules.specs.declared.message.Message.{Message}
-use Rattle.node_rules.specs.declared.message.Outgoing.{Outgoing}
-use Rattle.node_rules.specs.Messages.{htcp, to}
-use Rattle.node_rules.specs.State.{replies, sending}
+use Rattle.node_rules.specs.State.{replies}
 use Rattle.node_rules.specs.Raises.{left_by}
-use Rattle.node_rules.specs.Datagrams.{if_desired, clr_code, clr_done, purge, rebased, rebase}
+use Rattle.node_rules.specs.Datagrams.{clr_done, purge, rebased, rebase}
 use Rattle.node_rules.proofs.Stores.{none_below}
 
 -- two filters leave the same in either order
@@ -87,38 +83,17 @@ any_counted p (x ∷ xs) = ap (nat_lt 0) (sum_by-cons (λ x. cond (p x) 1 0) x x
     by true others = grind arith
     by false others = ap (nat_lt 0) (grind arith) ∙ others
 
--- a response where one is desired, else none
-answered : {X : Type 0} (t : NodeState X) (from : Address) (desired : Bool) (m : Message) →
-    if_desired t desired from m ≡ replies t (sending (cond desired (to from m ∷ []) []))
-answered t from true m = refl
-answered t from false m = refl
-
--- the messages of a response, by whether a copy went
-abbrev pub response : Address → ℕ → Bool → Bool → List Outgoing
-response from trans desired some = cond desired (to from (htcp trans (content.ClrAnswer (clr_code some))) ∷ []) []
-
-chosen : (from : Address) (trans : ℕ) (desired some : Bool) →
-    cond some (response from trans desired true) (response from trans desired false) ≡ response from trans desired some
-chosen from trans desired true = refl
-chosen from trans desired false = refl
-
 -- an admission, by what it leaves and what it answers
 pub rebase_is : {X : Type 0} (s : NodeState X) (from : Address) (trans : ℕ) (desired : Bool) (n : ℕ) (floors : FloorTable)
-    (copies : List (WebCopy X)) (gone : ℕ) (dropped kept said : List Outgoing) (reply : Reply X) → floors ≡ with_base s.floors n →
-    copies ≡ without_all_below n s.copies → gone ≡ count_by (λ c. nat_lt c.stamp n) s.copies →
-    dropped ≡ response from trans desired true → kept ≡ response from trans desired false → said ≡ cond (nat_lt 0 gone) dropped kept →
-    reply ≡ sending said → rebase s from trans desired n ≡ replies (record s { floors = floors; copies = copies }) reply
+    (copies : List (WebCopy X)) (gone : ℕ) (reply : Reply X) → floors ≡ with_base s.floors n → copies ≡ without_all_below n s.copies →
+    gone ≡ count_by (λ c. nat_lt c.stamp n) s.copies → ((t : NodeState X) → clr_done t from trans desired (nat_lt 0 gone) ≡ replies t reply) →
+    rebase s from trans desired n ≡ replies (record s { floors = floors; copies = copies }) reply
 unfolding rebase
-rebase_is {X} s from trans desired n floors copies gone dropped kept said reply floors_are copies_are gone_is dropped_is kept_is said_is reply_is =
+rebase_is {X} s from trans desired n floors copies gone reply floors_are copies_are gone_is answers =
     let after : FloorTable → List (WebCopy X) → NodeState X = λ f cs. record s { floors = f; copies = cs } in
     let left = without_all_below n s.copies in
     let some : nat_lt 0 gone ≡ list_any (λ (c : WebCopy X). nat_lt c.stamp n) s.copies = ap (nat_lt 0) gone_is ∙ any_counted _ s.copies in
-    let is : said ≡ response from trans desired (nat_lt 0 gone) =
-    said_is ∙ ap (λ d. cond (nat_lt 0 gone) d kept) dropped_is ∙ ap (λ k. cond (nat_lt 0 gone) (response from trans desired true) k) kept_is
-    ∙ chosen from trans desired (nat_lt 0 gone) in
     ap (clr_done (rebased s n) from trans desired) (sym some)
-    ∙ answered (rebased s n) from desired (htcp trans (content.ClrAnswer (clr_code (nat_lt 0 gone))))
-    ∙ ap (λ m. replies (after (with_base s.floors n) left) (sending m)) (sym is)
-    ∙ ap (λ (r : Reply X). replies (after (with_base s.floors n) left) r) (sym reply_is)
+    ∙ answers (after (with_base s.floors n) left)
     ∙ ap (λ f. replies (after f left) reply) (sym floors_are)
     ∙ ap (λ cs. replies (after floors cs) reply) (sym copies_are)

@@ -4,7 +4,7 @@
 use Rattle.std.proofs.Common.{◌≡◌, ℕ, false, true, ◌⊎◌, inl, inr, List, Option, Some, Result, Ok, Err, ◌∙◌, ap, subst, sym}
 use Rattle.std.specs.Prelude.{⊤}
 use Rattle.floor_rules.specs.Floors.{FloorTable, raised, with_base}
-use Rattle.floor_rules.specs.Store.{IsBeforeOrAfter, IsBeforeOrAfterBase, HaveRisen}
+use Rattle.floor_rules.specs.Store.{IsBeforeOrAfter, IsBeforeOrAfterBase}
 use Rattle.floor_rules.specs.declared.fault.FloorFault.{FloorFault}
 use Rattle.floor_rules.specs.declared.fault.FloorFault.TheVariants as floor_fault
 use Rattle.node_rules.specs.declared.state.NodeState.{NodeState}
@@ -18,8 +18,7 @@ use Rattle.node_rules.specs.declared.raising.Raise.{Raise}
 use Rattle.node_rules.specs.Relation.{Steps, IsClosed, raise_in}
 use Rattle.values_keys.specs.KeyOf.{key_of, GivesKeys}
 use Rattle.values_keys.proofs.Outcomes.{gives_keys}
-use Rattle.node_core.specs.Closing.{step_fault_of, KeepsStore, FailsWithCause}
-use Rattle.node_core.specs.View.{NodeText}
+use Rattle.node_core.specs.Closing.{step_fault_of, FailsWithCause}
 use Rattle.node_core.specs.Leads.{Leads, MayClose}
 
 -- a method that closes no node also keeps the weaker word of those that may
@@ -83,12 +82,6 @@ pub base_found_either : (stored before after found : FloorTable) (n : ℕ) → s
 base_found_either stored before after found n e raise (inl same) = inl (same ∙ e)
 base_found_either stored before after found n e raise (inr new) = inr (new ∙ ap (λ f. with_base f n) e ∙ sym raise)
 
--- the same for an equal node
-pub keeps_by : {X S : Type 0} (honest : S → Type 0) (may_find : S → FloorTable → Type 0) (before now after : NodeText X S) (out : Result (Reply X) StepFault) →
-    now ≡ after →
-    KeepsStore (honest after.store) (may_find after.store) before after out → KeepsStore (honest now.store) (may_find now.store) before now out
-keeps_by honest may_find before now after out e h = subst (λ v. KeepsStore (honest v.store) (may_find v.store) before v out) (sym e) h
-
 -- no rule leads to a fault of the store
 pub without_fault : {X : Type 0} (honest risen : Type 0) (to : Stepped X) (s next : NodeState X) (out : Result (Reply X) StepFault) → Leads to s out next →
     FailsWithCause honest risen out
@@ -112,9 +105,3 @@ pub caused : (X : Type 0) (f : FloorFault) (out : Result (Unit {0}) FloorFault) 
 caused X floor_fault.NoMemory out risen is store bad e = absurd e
 caused X floor_fault.StoreFault out risen is store bad e = store is
 caused X floor_fault.BadTable out risen is store bad e = absurd (bad is)
-
--- the same for an equal node
-pub fails_by : {X S : Type 0} (honest : S → Type 0) (failed : S → ℕ) (before : ℕ) (now after : NodeText X S) (out : Result (Reply X) StepFault) → now ≡ after →
-    FailsWithCause (honest after.store) (HaveRisen before (failed after.store)) out → FailsWithCause (honest now.store) (HaveRisen before (failed now.store))
-    out
-fails_by honest failed before now after out e h = subst (λ v. FailsWithCause (honest v.store) (HaveRisen before (failed v.store)) out) (sym e) h

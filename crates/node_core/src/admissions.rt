@@ -1,6 +1,5 @@
 //! Admissions: a CLR arrives whose header tells a base.
-ghost use Rattle.std.specs.Prelude.{◌≡◌, ◌≤◌, ℕ, List, Option, Some, false, nat_lt};
-ghost use Rattle.std.specs.Prelude.{if◌then◌else◌};
+ghost use Rattle.std.specs.Prelude.{◌≡◌, ◌≤◌, ℕ, List, Option, Some, false};
 ghost use Rattle.node_rules.specs.Datagrams as datagrams;
 ghost use Rattle.node_rules.specs.declared.raising.Raise.TheVariants.{Base};
 ghost use Rattle.node_core.specs.View.{IsSameMember, setting_of};
@@ -10,20 +9,13 @@ ghost use Rattle.node_core.specs.Leads.{MayClose};
 
 use crate::Node;
 use crate::purges::{refused, step_fault_of};
-use crate::replies::{response, sends_all};
+use crate::replies::sends_if;
 use floor_rules::FloorStore;
 use htcp_wire::HtcpFault;
 use node_messages::clr_answer;
-use node_rules::{Outgoing, Reply, StepFault};
+use node_rules::{Reply, StepFault};
 use node_waiting::PendingList;
 use roster::Address;
-
-/// The first of these where some copies went, else the second.
-fn told(gone: u64, dropped: Vec<Outgoing>, kept: Vec<Outgoing>) -> Vec<Outgoing>
-    ensures { result.items ≡ if nat_lt 0 gone then dropped.items else kept.items }
-{
-    if gone > 0 { dropped } else { kept }
-}
 
 impl<T: Copy + Drop, S: FloorStore> Node<T, S> {
     /// A CLR with a base line arrives. A good one comes from the master, its number is its TRANS-ID
@@ -52,12 +44,12 @@ impl<T: Copy + Drop, S: FloorStore> Node<T, S> {
             Ok(None) if self.roster.is_master(from) && base == trans && base >= 1 => {
                 self.rebase(from, trans, desired, base)
             }
-            _ => Ok(refused(self.alloc, from, trans, desired)?),
+            _ => Ok(refused(self.alloc, from, trans, desired)),
         }
     }
 
-    /// Admits the node: the base rises to this number at least. In this order: both responses are
-    /// made; all copies with a lesser stamp go; the base rises in memory; and the store commits it.
+    /// Admits the node: the base rises to this number at least. In this order: all copies with a
+    /// lesser stamp go; the base rises in memory; the store commits it; and the response is made.
     /// If the store fails, the node closes: no request is pending then, and the next block and all
     /// copies that are left stay as they were.
     #[tactic(auto, unfolding(node_rules::specs::Datagrams::rebase))]
@@ -78,12 +70,10 @@ impl<T: Copy + Drop, S: FloorStore> Node<T, S> {
         ensures leads { MayClose (datagrams.rebase self.old.state from trans desired number)
             self.old.state (Some (Base number)) result self.new.state }
     {
-        let dropped = response(self.alloc, desired, clr_answer(from, trans, true))?;
-        let kept = response(self.alloc, desired, clr_answer(from, trans, false))?;
         let gone = self.copies.clear_all_below(number)?;
         self.floors.raise_base(number);
         match self.store.raise_base(number) {
-            Ok(()) => Ok(sends_all(told(gone, dropped, kept))),
+            Ok(()) => Ok(sends_if(self.alloc, desired, clr_answer(from, trans, gone > 0))),
             Err(fault) => {
                 self.closed = true;
                 self.pending = PendingList::new(self.alloc);

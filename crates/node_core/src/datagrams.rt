@@ -95,7 +95,7 @@ impl<T: Copy + Drop, S: FloorStore> Node<T, S> {
     {
         match content {
             Content::NopAsk { desired } => {
-                Ok(sends_if(self.alloc, desired, nop_answer(from, trans))?)
+                Ok(sends_if(self.alloc, desired, nop_answer(from, trans)))
             }
             Content::TstAsk { desired, spec } => self.htcp_tst(from, trans, desired, &spec, now),
             Content::TstHit { detail } => {
@@ -108,7 +108,7 @@ impl<T: Copy + Drop, S: FloorStore> Node<T, S> {
             Content::ClrAsk { desired, spec, .. } => self.htcp_clr(from, trans, desired, &spec),
             Content::Other { opcode, desired } => {
                 let answer = overall_answer(from, trans, opcode, NOT_IMPLEMENTED);
-                Ok(sends_if(self.alloc, desired, answer)?)
+                Ok(sends_if(self.alloc, desired, answer))
             }
             Content::Overall { opcode, .. } | Content::OtherAnswer { opcode, .. } => {
                 self.tst_refused(from, trans, opcode, now, mark)

@@ -1,5 +1,5 @@
 //! An HTCP CLR arrives (RFC 2756, "CLR"), and purges.
-ghost use Rattle.std.specs.Prelude.{◌≡◌, ◌≤◌, ℕ, List, Option, Some, None, option_map, IfOk, OnOk};
+ghost use Rattle.std.specs.Prelude.{◌≡◌, ◌≤◌, ℕ, List, Option, Some, None, option_map, OnOk};
 ghost use Rattle.std.specs.Prelude.{OnErr, false, Err};
 ghost use Rattle.node_rules.specs.State as state;
 ghost use Rattle.node_rules.specs.Datagrams as datagrams;
@@ -29,15 +29,10 @@ use roster::{Address, Udp};
 use std::alloc::{AllocError, Global};
 use url_key::Key;
 
-/// The response to a CLR that is not allowed.
-pub(crate) fn refused<T: Drop>(
-    alloc: Global,
-    from: Address,
-    trans: u32,
-    desired: bool,
-) -> Result<Reply<T>, AllocError>
-    ensures { IfOk result (λ reply. (s : NodeState T) →
-        datagrams.clr_refused s from trans desired ≡ state.replies s reply) }
+/// The response to a CLR that is not allowed. Allocates nothing.
+pub(crate) fn refused<T>(alloc: Global, from: Address, trans: u32, desired: bool) -> Reply<T>
+    ensures { (s : NodeState T) →
+        datagrams.clr_refused s from trans desired ≡ state.replies s result }
 {
     sends_if(
         alloc,
@@ -134,7 +129,7 @@ impl<T: Copy + Drop, S: FloorStore> Node<T, S> {
         match base {
             Ok(None) => self.clr_by_line(from, trans, desired, key, number),
             Ok(Some(base)) => self.base_clr(from, trans, desired, base, number),
-            Err(_) => Ok(refused(self.alloc, from, trans, desired)?),
+            Err(_) => Ok(refused(self.alloc, from, trans, desired)),
         }
     }
 
@@ -164,7 +159,7 @@ impl<T: Copy + Drop, S: FloorStore> Node<T, S> {
         match number {
             Ok(None) => self.plain_clr(from, trans, desired, key),
             Ok(Some(number)) => self.numbered_clr(from, trans, desired, key, number),
-            Err(_) => Ok(refused(self.alloc, from, trans, desired)?),
+            Err(_) => Ok(refused(self.alloc, from, trans, desired)),
         }
     }
 
@@ -184,17 +179,16 @@ impl<T: Copy + Drop, S: FloorStore> Node<T, S> {
             self.old.state result self.new.state }
     {
         if !is_known(&self.roster, self.id, Udp::Htcp, from) && !self.roster.is_master(from) {
-            return Ok(refused(self.alloc, from, trans, desired)?);
+            return Ok(refused(self.alloc, from, trans, desired));
         }
         let held = match key {
             Some(key) => self.copies.peek(key).is_some(),
             None => false,
         };
-        let reply = sends_if(self.alloc, desired, clr_answer(from, trans, held))?;
         if let Some(key) = key {
             self.copies.remove(key);
         }
-        Ok(reply)
+        Ok(sends_if(self.alloc, desired, clr_answer(from, trans, held)))
     }
 
     /// A CLR with a number arrives. A good one comes from the master, for a URI that has a key, and
@@ -224,7 +218,7 @@ impl<T: Copy + Drop, S: FloorStore> Node<T, S> {
             Some(key) if self.roster.is_master(from) && number == trans && number >= 1 => {
                 self.purge(from, trans, desired, key, number)
             }
-            _ => Ok(refused(self.alloc, from, trans, desired)?),
+            _ => Ok(refused(self.alloc, from, trans, desired)),
         }
     }
 
@@ -238,10 +232,10 @@ impl<T: Copy + Drop, S: FloorStore> Node<T, S> {
         }
     }
 
-    /// Purges a key. In this order: the response is made; where the base is to rise, all copies
-    /// below the new base go; the floor rises in memory; the store commits it; and an older copy of
-    /// the key goes. If the store fails, the node closes: no request is pending then, and the next
-    /// block and all copies that are left stay as they were.
+    /// Purges a key. In this order: where the base is to rise, all copies below the new base go;
+    /// the floor rises in memory; the store commits it; an older copy of the key goes; and the
+    /// response is made. If the store fails, the node closes: no request is pending then, and the
+    /// next block and all copies that are left stay as they were.
     #[tactic(auto, unfolding(node_rules::specs::Datagrams::purge))]
     fn purge(
         &mut self,
@@ -262,12 +256,11 @@ impl<T: Copy + Drop, S: FloorStore> Node<T, S> {
             self.old.state (Some (Floor key.now number)) result self.new.state }
     {
         let dropped = self.holds_below(key, number.max(self.floors.new_base(key, number)));
-        let reply = sends_if(self.alloc, desired, clr_answer(from, trans, dropped))?;
         raise_in_memory(self.alloc, &mut self.floors, &mut self.copies, key, number)?;
         match self.store.raise(self.alloc, key, number) {
             Ok(()) => {
                 self.copies.clear_below(key, number);
-                Ok(reply)
+                Ok(sends_if(self.alloc, desired, clr_answer(from, trans, dropped)))
             }
             Err(fault) => {
                 self.closed = true;

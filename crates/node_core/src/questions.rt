@@ -25,6 +25,7 @@ use peer_chooser::{Round, Said};
 use roster::{Address, Peer, Udp, is_foreign};
 use std::alloc::{AllocError, Global};
 use url_key::{Key, KeyFault};
+use values_plain::Octets;
 
 /// What an answer to a round says. It may differ by who sent it.
 #[derive(Clone, Copy)]
@@ -140,7 +141,36 @@ impl<T: Copy + Drop, S: FloorStore> Node<T, S> {
         }
     }
 
-    /// A QUERY arrives. The response repeats number and URL, and the store keeps its order.
+    /// The opcode that answers a QUERY for this URL, and the URL. Only a URL that is no plain key
+    /// is copied to read its key: any other is the key itself for the time of the look-up.
+    fn op_and_url(
+        &self,
+        from: Address,
+        url: Octets,
+        now: u64,
+    ) -> Result<(IcpOp, Octets), AllocError>
+        ensures url { IfOk result (λ told. told.1 ≡ url) }
+        ensures op { IfOk result (λ told. (key : Option (List ℕ)) × HasKeyOf url key
+            × (told.0 ≡ datagrams.icp_answer
+            (datagrams.answers_to (state.setting self.now.roster self.now.id) self.now.state udp.Icp
+            from) self.now.state now key)) }
+    {
+        match Key::from_plain(url.into_vec()) {
+            Ok(key) => {
+                let op = self.query_answer(from, Some(&key), now);
+                Ok((op, Octets::from_vec(key.into_text())))
+            }
+            Err(text) => {
+                let url = Octets::from_vec(text);
+                let key = key_of_text(self.alloc, url.as_slice())?;
+                let op = self.query_answer(from, key.as_ref(), now);
+                Ok((op, url))
+            }
+        }
+    }
+
+    /// A QUERY arrives. The response repeats the number, and has the URL of the query, which is not
+    /// copied. The store keeps its order.
     pub(crate) fn icp_query(
         &self,
         from: Address,
@@ -152,10 +182,9 @@ impl<T: Copy + Drop, S: FloorStore> Node<T, S> {
             Leads (datagrams.icp_query (setting_of self.now key_of) self.now.state from message now)
             self.now.state result self.now.state }
     {
-        let key = key_of_text(self.alloc, message.url.as_slice())?;
-        let op = self.query_answer(from, key.as_ref(), now);
-        let answer = icp_answer(self.alloc, from, op, message.number, message.url);
-        Ok(sends(self.alloc, answer)?)
+        let (op, url) = self.op_and_url(from, message.url, now)?;
+        let answer = icp_answer(self.alloc, from, op, message.number, url);
+        Ok(sends(answer))
     }
 
     /// The stamp of the copy that a SPECIFIER means, if the copy may be served. Only GET means one.
@@ -195,10 +224,10 @@ impl<T: Copy + Drop, S: FloorStore> Node<T, S> {
             return Ok(quiet(self.alloc));
         }
         if !self.answers_to(Udp::Htcp, from) {
-            return Ok(sends(self.alloc, overall_answer(from, trans, TST, NOT_ALLOWED))?);
+            return Ok(sends(overall_answer(from, trans, TST, NOT_ALLOWED)));
         }
         let stamp = self.stamp_meant(spec, now)?;
-        Ok(sends(self.alloc, tst_answer(self.alloc, from, trans, stamp)?)?)
+        Ok(sends(tst_answer(self.alloc, from, trans, stamp)?))
     }
 
     /// An ICP message other than QUERY arrives. It counts for the round of its request number, if

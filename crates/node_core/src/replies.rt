@@ -1,12 +1,12 @@
 //! Replies that steps make.
-ghost use Rattle.std.specs.Prelude.{◌≡◌, [], ◌∷◌, IfOk, if◌then◌else◌};
+ghost use Rattle.std.specs.Prelude.{◌≡◌, [], ◌∷◌};
 ghost use Rattle.node_rules.specs.declared.state.NodeState.{NodeState};
 ghost use Rattle.node_rules.specs.State as state;
 ghost use Rattle.node_rules.specs.Datagrams as datagrams;
 
 use node_rules::{Begin, Outgoing, Reply, Serve, Served};
 use roster::Listed;
-use std::alloc::{AllocError, Global};
+use std::alloc::Global;
 
 /// A reply that serves, sends and begins nothing. Allocates nothing.
 pub(crate) fn quiet<T>(alloc: Global) -> Reply<T>
@@ -50,58 +50,26 @@ pub(crate) fn serves<T>(
     }
 }
 
-/// A reply that only sends these messages. Allocates nothing.
-pub(crate) fn sends_all<T>(messages: Vec<Outgoing>) -> Reply<T>
-    ensures { result ≡ state.sending messages.items }
+/// A reply that only sends one message. Allocates nothing.
+pub(crate) fn sends<T>(message: Outgoing) -> Reply<T>
+    ensures { result ≡ state.sending (message ∷ []) }
 {
     Reply {
         serve: None,
-        send: Listed::new(messages),
+        send: Listed::one(message),
         begin: None,
     }
-}
-
-/// The one message of a response, or none if no response is desired (RFC 2756, "RD").
-pub(crate) fn response(
-    alloc: Global,
-    desired: bool,
-    message: Outgoing,
-) -> Result<Vec<Outgoing>, AllocError>
-    ensures { IfOk result (λ made. made.items ≡ if desired then message ∷ [] else []) }
-{
-    if !desired {
-        return Ok(Vec::new(alloc));
-    }
-    let mut messages = Vec::with_capacity(alloc, 1)?;
-    messages.push(message)?;
-    Ok(messages)
-}
-
-/// A reply that only sends one message.
-pub(crate) fn sends<T: Drop>(alloc: Global, message: Outgoing) -> Result<Reply<T>, AllocError>
-    ensures { IfOk result (λ reply. reply ≡ state.sending (message ∷ [])) }
-{
-    let mut messages = Vec::with_capacity(alloc, 1)?;
-    messages.push(message)?;
-    Ok(Reply {
-        serve: None,
-        send: Listed::new(messages),
-        begin: None,
-    })
 }
 
 /// The same, only if a response is desired (RFC 2756, "RD"); else a reply that does nothing.
-pub(crate) fn sends_if<T: Drop>(
-    alloc: Global,
-    desired: bool,
-    message: Outgoing,
-) -> Result<Reply<T>, AllocError>
-    ensures { IfOk result (λ reply. (s : NodeState T) →
-        datagrams.if_desired s desired message.to message.message ≡ state.replies s reply) }
+/// Allocates nothing.
+pub(crate) fn sends_if<T>(alloc: Global, desired: bool, message: Outgoing) -> Reply<T>
+    ensures { (s : NodeState T) →
+        datagrams.if_desired s desired message.to message.message ≡ state.replies s result }
 {
     if desired {
-        sends(alloc, message)
+        sends(message)
     } else {
-        Ok(quiet(alloc))
+        quiet(alloc)
     }
 }

@@ -15,9 +15,9 @@ use Rattle.node_rules.specs.declared.reply.Served.{Served}
 use Rattle.node_rules.specs.declared.reply.Begin.{Begin}
 use Rattle.node_rules.specs.declared.reply.Reply.{Reply}
 use Rattle.node_rules.specs.declared.reply.StepFault.{StepFault}
-use Rattle.node_rules.specs.declared.reply.StepFault.TheVariants.{NoMemory}
 use Rattle.node_rules.specs.State.{serving, serial_of}
-use Rattle.node_bytes.specs.Turns.{turn_of}
+use Rattle.node_bytes.specs.declared.turns.Turn.{Turn}
+use Rattle.node_bytes.specs.Turns.{IsTurnOf}
 use Rattle.node_http.specs.declared.asking.Asked.{Asked}
 use Rattle.node_http.specs.declared.asking.Asked.TheVariants.{Answered, Waits}
 use Rattle.node_http.specs.declared.taking.Taken.{Taken}
@@ -68,12 +68,14 @@ pub record ServesAtOnce (asker : Option ℕ) (reply : Reply (Unit {0})) (result 
   pub alone : reply ≡ serving None asker served
   pub is : result ≡ Ok (Serves (record { waiter = None; asker = asker; served = served }))
 
--- The reply serves nobody, and the sender waits for what begins; or memory is lacking for its datagrams.
+-- The reply serves nobody, and the sender waits for what begins, whether or not memory for its datagrams is lacking.
 pub record LeavesWaiting (reply : Reply (Unit {0})) (result : Result Taken ServeFault) : Type 0 where
   pub begun : Begin
   pub begins : reply.begin ≡ Some begun
   pub serves : reply.serve ≡ None
-  pub is : (result ≡ Ok (taken.Waits (block_of begun) (turn_of reply))) ⊎ (result ≡ Err (Step NoMemory))
+  pub turn : Turn
+  pub turn_is : IsTurnOf reply turn
+  pub is : result ≡ Ok (taken.Waits (block_of begun) turn)
 
 -- After a step: one of the two, or it was refused.
 abbrev pub IsTaken : Option ℕ → Result (Reply (Unit {0})) StepFault → Result Taken ServeFault → Type 0

@@ -32,8 +32,6 @@ pub enum Asked {
 ///   414 for a URL that is too long; 431 for `HeadTooLong`; 501 for `MethodNotServed` and
 ///   `Credentials`; 503 for `NoMemory`; nothing for `Io`, `EndOfInput` and `TooManyTurns`
 /// - a fault of the step: 503
-/// - `NoMemory` of a step that stands, since its datagrams found no memory; none of them is sent:
-///   503
 /// - `Io` if the writer failed in the response: a front of the response, and no status
 pub fn serve_ask<N: Stepper, R: Read, W: Write>(
     alloc: Global,

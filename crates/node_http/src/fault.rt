@@ -11,8 +11,7 @@ pub enum ServeFault {
     /// The request was not read, and no step was taken; or the response was not written whole.
     #[error("{0}")]
     Fetch(FetchFault),
-    /// The step was refused. `NoMemory` may also mean that the step stands, and that its datagrams
-    /// found no memory; none of them is sent.
+    /// The step was refused.
     #[error("{0}")]
     Step(StepFault),
 }

@@ -1,8 +1,8 @@
 //! A request over HTTP, from reading to the step.
-ghost use Rattle.std.specs.Prelude.{◌≡◌, ◌⊎◌, ℕ, Option, Ok, Err, true};
+ghost use Rattle.std.specs.Prelude.{◌≡◌, ℕ, Option, Ok, true};
 ghost use Rattle.roster.specs.Lookups.{is_member as is_member_of};
 ghost use Rattle.node_bytes.specs.Stepping.{AnswersAsker};
-ghost use Rattle.node_bytes.specs.Turns.{turn_of};
+ghost use Rattle.node_bytes.specs.Turns.{IsTurnOf};
 ghost use Rattle.node_http.specs.Asking.{IsTaken, TakesAsk, TakesFor, event_by as event_from};
 ghost use Rattle.node_http.specs.Asking.{block_of as block_begun};
 
@@ -11,7 +11,7 @@ use crate::roster_names::asker_of;
 use http_messages::Ask;
 use http_reading::read_ask;
 use node_bytes::{Stepper, Turn};
-use node_rules::{Begin, Event, Reply, SERIALS, Serve, StepFault};
+use node_rules::{Begin, Event, Reply, SERIALS, Serve};
 use roster::Roster;
 use std::alloc::Global;
 use std::io::Read;
@@ -35,7 +35,9 @@ pub enum Taken {
 ///
 /// - a fault of `read_ask`, and no step is taken
 /// - a fault of the step
-/// - `NoMemory` of a step that stands, since its datagrams found no memory; none of them is sent
+///
+/// A step that stands is never refused: if memory for its datagrams is lacking, the request waits
+/// all the same, and none of them is sent ([`Turn::of`]).
 pub fn take_ask<N: Stepper, R: Read>(
     alloc: Global,
     roster: &Roster,
@@ -68,7 +70,7 @@ fn step_for<N: Stepper>(
     ensures { TakesFor N.takes asker ask now node.old node.new result }
 {
     match node.step(event_by(asker, ask, now)) {
-        Ok(reply) => taken_of(alloc, reply),
+        Ok(reply) => Ok(taken_of(alloc, reply)),
         Err(fault) => Err(ServeFault::Step(fault)),
     }
 }
@@ -84,9 +86,9 @@ fn event_by(asker: Option<u8>, ask: Ask, now: u64) -> Event<()>
 }
 
 /// What a reply to a request serves, or hands on.
-fn taken_of(alloc: Global, reply: Reply<()>) -> Result<Taken, ServeFault>
+fn taken_of(alloc: Global, reply: Reply<()>) -> Taken
     requires asks { (asker : Option ℕ) × AnswersAsker asker reply }
-    ensures { (asker : Option ℕ) → AnswersAsker asker reply → IsTaken asker (Ok reply) result }
+    ensures { (asker : Option ℕ) → AnswersAsker asker reply → IsTaken asker (Ok reply) (Ok result) }
 {
     match &reply.begin {
         Some(begin) => {
@@ -96,7 +98,7 @@ fn taken_of(alloc: Global, reply: Reply<()>) -> Result<Taken, ServeFault>
         None => {
             let Reply { serve, .. } = reply;
             match serve {
-                Some(serve) => Ok(Taken::Serves(serve)),
+                Some(serve) => Taken::Serves(serve),
                 None => unreachable!(),
             }
         }
@@ -114,13 +116,9 @@ fn block_of(begin: &Begin) -> u32
     }
 }
 
-/// Hands on what a reply says is to be done, if there is memory for it.
-fn hand_on(alloc: Global, block: u32, reply: Reply<()>) -> Result<Taken, ServeFault>
-    ensures { (result ≡ Ok (Taken.Waits block (turn_of reply)))
-        ⊎ (result ≡ Err (ServeFault.Step StepFault.NoMemory)) }
+/// Hands on what a reply says is to be done.
+fn hand_on(alloc: Global, block: u32, reply: Reply<()>) -> Taken
+    ensures { (turn : Turn) × (result ≡ Taken.Waits block turn) × IsTurnOf reply turn }
 {
-    match Turn::of(alloc, reply) {
-        Ok(turn) => Ok(Taken::Waits(block, turn)),
-        Err(_) => Err(ServeFault::Step(StepFault::NoMemory)),
-    }
+    Taken::Waits(block, Turn::of(alloc, reply))
 }

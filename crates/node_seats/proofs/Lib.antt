@@ -1,5 +1,7 @@
--- Read Histories and Entries first; Recording stands on Histories. Keeping is of what only proofs see.
+-- Read Histories and Entries first; Recording stands on Histories. Calling is of what a call is told; Keeping of what
+-- only proofs see.
 pub mod Histories
 pub mod Entries
 pub mod Recording
+pub mod Calling
 pub mod Keeping

@@ -1,5 +1,7 @@
 -- The history of a node, and the book that has its end.
-use Rattle.std.proofs.Common.{◌≡◌, Option, None, Some, List, [], ◌++◌, refl, sym, ap, subst, ◌∙◌, append_assoc, arith}
+use Rattle.std.proofs.Common.{◌≡◌, ℕ, true, false, Option, None, Some, List, [], ◌++◌, refl, sym, ap, subst, ◌∙◌, append_assoc, arith}
+use Rattle.std.proofs.lemmas.Bool.{false≢true}
+use Rattle.std.proofs.lemmas.Bool.Decides.{nat_tests}
 use Rattle.std.proofs.lemmas.List.{append-nil}
 use Rattle.node_rules.specs.State.{setting}
 use Rattle.node_core.specs.View.{NodeText}
@@ -10,7 +12,9 @@ use Rattle.node_book.specs.Closed.{IsRecorded}
 use Rattle.node_seats.specs.Beginning.{Beginning, LeadsToNode, beginning_of}
 use Rattle.node_seats.specs.declared.steps.Steps.{Steps}
 use Rattle.node_seats.specs.declared.steps.Steps.TheVariants.{Recorded, Alone}
-use Rattle.node_seats.specs.Records.{IsPart, IsRecordedIn, Stands}
+use Rattle.node_seats.specs.declared.retention.Retention.{Retention}
+use Rattle.node_seats.specs.declared.retention.Retention.TheVariants.{UpTo, Dropped}
+use Rattle.node_seats.specs.Records.{IsEndOf, IsPart, IsRecordedIn, Stands, keeps, kept_record, next_record, open_record, record_of}
 use Rattle.node_seats.specs.Desks.{AreNewSteps, HasRoom, IsEndedIn, IsEnteredIn, IsWithoutBook, with_page_filed}
 use Rattle.node_seats.proofs.Histories.{replays_append}
 
@@ -48,15 +52,21 @@ record_leads b log book done r d =
     subst (λ n. Replays (setting n b.id) done.opening done.entries done.closing) r.node.0
     (subst (λ i. Replays (setting book.node.roster i) done.opening done.entries done.closing) r.node.1 d.replay)
 
--- it is a part of the history
-recorded_part : {S : Type 0} (b : Beginning) (log : List NodeEntry) (book : BookView S) (done : Record) → IsRecordedIn b log book → IsRecorded book done →
-    IsPart (Some b) done
-recorded_part b log book done r d = (
+-- it is the end of the history
+recorded_end : {S : Type 0} (b : Beginning) (log : List NodeEntry) (book : BookView S) (done : Record) → IsRecordedIn b log book → IsRecorded book done →
+    IsEndOf (Some b) log done
+recorded_end b log book done r d = (
   r.before,
+  r.log_is ∙ ap (λ l. r.before ++ l) (sym d.entries),
   d.node ∙ r.node.1,
   subst (λ s. Replays (setting b.roster b.id) b.opening r.before s) (sym d.opening) r.began,
   record_leads b log book done r d,
 )
+
+-- and so a part of it
+pub part_of_end : (b : Option Beginning) (log : List NodeEntry) (done : Record) → IsEndOf b log done → IsPart b done
+part_of_end None log done end = absurd end
+part_of_end (Some b) log done (before, log_is, node, began, leads) = (before, node, began, leads)
 
 -- where the book ends its record, the history stays recorded
 recorded_ended : {S : Type 0} (b : Beginning) (log : List NodeEntry) (book : BookView S) (done : Record) → IsRecordedIn b log book → IsRecorded book done →
@@ -83,14 +93,57 @@ stands_ended (Some b) log (Some (Recorded book)) new taken stands (done, recorde
 stands_ended {S} (Some b) log (Some (Alone node)) new taken stands (out, is) = subst (λ n. Stands {S = S} (Some b) log n) (sym is) stands
 stands_ended {S} (Some b) log None new taken stands (out, is) = subst (λ n. Stands {S = S} (Some b) log n) (sym is) tt
 
--- and the record is a part of it
-pub stands_part : {S : Type 0} (b : Option Beginning) (log : List NodeEntry) (steps new : Option (Steps S)) (taken : Option Record) (done : Record) →
-    Stands b log steps → IsEndedIn steps taken new → taken ≡ Some done → IsPart b done
-stands_part None log steps new taken done stands ended is = absurd stands
-stands_part (Some b) log (Some (Recorded book)) new taken done stands (its, recorded, out, new_is) is =
-    subst (λ r. IsPart (Some b) r) (grind (arith, out, is)) (recorded_part b log book its stands recorded)
-stands_part (Some b) log (Some (Alone node)) new taken done stands (out, new_is) is = absurd (grind (arith, out, is))
-stands_part (Some b) log None new taken done stands (out, new_is) is = absurd (grind (arith, out, is))
+-- and the record is the end of it
+pub stands_end : {S : Type 0} (b : Option Beginning) (log : List NodeEntry) (steps new : Option (Steps S)) (taken : Option Record) (done : Record) →
+    Stands b log steps → IsEndedIn steps taken new → taken ≡ Some done → IsEndOf b log done
+stands_end None log steps new taken done stands ended is = absurd stands
+stands_end (Some b) log (Some (Recorded book)) new taken done stands (its, recorded, out, new_is) is =
+    subst (λ r. IsEndOf (Some b) log r) (grind (arith, out, is)) (recorded_end b log book its stands recorded)
+stands_end (Some b) log (Some (Alone node)) new taken done stands (out, new_is) is = absurd (grind (arith, out, is))
+stands_end (Some b) log None new taken done stands (out, new_is) is = absurd (grind (arith, out, is))
+
+-- the record of a book is all that is in it
+record_is : {S : Type 0} (book : BookView S) (done : Record) → IsRecorded book done → done ≡ record_of book
+record_is book done d =
+    ap (λ n. record { node = n; opening = done.opening; entries = done.entries; closing = done.closing }) d.node
+    ∙ (ap (λ s. record { node = book.node.id; opening = s; entries = done.entries; closing = done.closing }) d.opening
+    ∙ (ap (λ es. record { node = book.node.id; opening = book.opening; entries = es; closing = done.closing }) d.entries
+    ∙ ap (λ s. record { node = book.node.id; opening = book.opening; entries = book.entries; closing = s }) d.closing))
+
+-- where the book ends its record, the one that was open is taken
+pub ended_taken : {S : Type 0} (steps new : Option (Steps S)) (taken : Option Record) → IsEndedIn steps taken new → taken ≡ open_record steps
+ended_taken (Some (Recorded book)) new taken (its, recorded, out, is) = out ∙ ap Some (record_is book its recorded)
+ended_taken (Some (Alone node)) new taken (out, is) = out
+ended_taken None new taken (out, is) = out
+
+-- and the next one is open
+pub ended_next : {S : Type 0} (steps new : Option (Steps S)) (taken : Option Record) → IsEndedIn steps taken new →
+    open_record new ≡ next_record (open_record steps)
+ended_next {S} (Some (Recorded book)) new taken (its, recorded, out, is) = ap (open_record {S = S}) is
+ended_next {S} (Some (Alone node)) new taken (out, is) = ap (open_record {S = S}) is
+ended_next {S} None new taken (out, is) = ap (open_record {S = S}) is
+
+-- the record that is kept is the open one
+pub kept_open : {S : Type 0} (retention : Retention) (pages : ℕ) (steps : Option (Steps S)) → keeps retention pages ≡ true →
+    kept_record retention pages steps ≡ open_record steps
+kept_open retention pages steps is = rw is refl
+
+-- where it is not kept, none is
+pub kept_none : {S : Type 0} (retention : Retention) (pages : ℕ) (steps : Option (Steps S)) → keeps retention pages ≡ false →
+    kept_record retention pages steps ≡ None
+kept_none retention pages steps is = rw is refl
+
+-- where one page more is kept beside some, one is kept
+pub keeps_first : (retention : Retention) (pages : ℕ) → keeps retention pages ≡ true → keeps retention 0 ≡ true
+keeps_first (UpTo most) pages is = grind (arith, nat_tests, is)
+keeps_first Dropped pages is = absurd (false≢true is)
+
+-- where the record that is kept was taken, the next one is kept
+pub kept_next : {S : Type 0} (retention : Retention) (pages : ℕ) (steps new : Option (Steps S)) (taken : Option Record) → keeps retention pages ≡ true →
+    IsEndedIn steps taken new → kept_record retention 0 new ≡ next_record (kept_record retention pages steps)
+kept_next retention pages steps new taken is ended =
+    kept_open retention 0 new (keeps_first retention pages is)
+    ∙ (ended_next steps new taken ended ∙ sym (ap next_record (kept_open retention pages steps is)))
 
 -- a history goes on standing where a page is filed
 pub stands_filed : {S : Type 0} (b : Option Beginning) (log : List NodeEntry) (steps : Option (Steps S)) → Stands b log steps →

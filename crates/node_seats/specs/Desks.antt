@@ -1,26 +1,36 @@
 -- What contracts see of a node under its lock.
-use Rattle.std.specs.Prelude.{◌≡◌, ◌<◌, ◌+◌, ℕ, List, [], ◌∷◌, ◌++◌, length, slice_index_or, Option, Some, None, Result}
+use Rattle.std.specs.Prelude.{◌≡◌, ◌<◌, ◌+◌, ℕ, List, [], ◌∷◌, ◌++◌, length, slice_index_or, Option, Some, None, Result, IfOk}
 use Rattle.node_core.specs.View.{IsSameMember, NodeText}
 use Rattle.node_book.specs.Book.{BookView, IsReplayed}
 use Rattle.node_book.specs.Closed.{IsRecorded}
 use Rattle.node_book.specs.declared.book.NodeEntry.{NodeEntry}
 use Rattle.node_book.specs.declared.record.Record.{Record}
+use Rattle.node_seats.specs.declared.retention.Retention.{Retention}
 use Rattle.node_seats.specs.declared.steps.Steps.{Steps}
 use Rattle.node_seats.specs.declared.steps.Steps.TheVariants.{Recorded, Alone}
 use Rattle.floor_rules.specs.Floors.{FloorTable}
 use Rattle.node_bytes.specs.Nodes.{TakesStep}
+use Rattle.node_bytes.specs.Stepping.{AnswersAsk}
 use Rattle.node_rules.specs.declared.event.Event.{Event}
 use Rattle.node_rules.specs.declared.reply.Reply.{Reply}
 use Rattle.node_rules.specs.declared.reply.StepFault.{StepFault}
-use Rattle.node_seats.specs.Seats.{IsEntryOf, IsToldOf, SeatView}
+use Rattle.node_seats.specs.Records.{HeldView, kept_record}
+use Rattle.node_seats.specs.declared.entering.Told.{Told}
+use Rattle.node_seats.specs.declared.entering.Told.TheVariants.{Copied, InBook}
+use Rattle.node_seats.specs.Seats.{Called, IsEntryOf, SeatView}
 
--- The history, the node with its book if its steps are recorded, how many pages of the book are full, and how many
--- octets the events of the open page have brought along.
+-- The history, the node with its book if its steps are recorded, how many pages of the book are full, how many octets
+-- the events of the open page have brought along, and what becomes of the record.
 pub record DeskView (S : Type 0) : Type 0 where
   pub log : List NodeEntry
   pub steps : Option (Steps S)
   pub pages : ℕ
   pub octets : ℕ
+  pub retention : Retention
+
+-- What a caller may know of it.
+abbrev pub held_of : {S : Type 0} → DeskView S → HeldView
+held_of desk = record { log = desk.log; kept = kept_record desk.retention desk.pages desk.steps }
 
 -- Another step can be entered. [Book 5]
 abbrev pub HasRoom : {S : Type 0} → ℕ → Option (Steps S) → Type 0
@@ -69,14 +79,40 @@ abbrev pub AreNewSteps : {S : Type 0} → NodeText (Unit {0}) S → Steps S → 
 AreNewSteps node (Recorded book) = book ≡ record { node = node; opening = node.state; entries = []; filed = 0 }
 AreNewSteps node (Alone alone) = alone ≡ node
 
+-- What is told of an outcome that is entered in a book: the outcome; or that the book has it.
+abbrev pub IsToldOf : Result (Reply (Unit {0})) StepFault → Told → Type 0
+IsToldOf outcome (Copied told) = told ≡ outcome
+IsToldOf outcome InBook = Unit {0}
+
 -- The node has taken the step of a call, which is entered in the book behind the others, and its outcome is what is
--- told.
+-- told, or the book has it. A request is served at once, or waits for what the step begins.
 pub record IsTakenIn {S : Type 0} (honest : Type 0) (may_find : FloorTable → Type 0) (have_risen : Type 0)
-    (before after : BookView S) (seat : ℕ) (event : Event (Unit {0})) (told : Result (Reply (Unit {0})) StepFault) :
-    Type 0 where
+    (before after : BookView S) (seat : ℕ) (event : Event (Unit {0})) (told : Told) : Type 0 where
   pub entry : NodeEntry
   pub of_call : IsEntryOf seat event entry
   pub entries : after.entries ≡ before.entries ++ entry ∷ []
   pub opening : after.opening ≡ before.opening
   pub told_of : IsToldOf entry.outcome told
   pub step : TakesStep honest may_find have_risen before.node event entry.outcome after.node
+  pub asks : IfOk entry.outcome (AnswersAsk event)
+
+-- The last entry of the book is the one of the call, as the seat knows it.
+pub record IsLastIn {S : Type 0} (book : BookView S) (old : SeatView) (event : Event (Unit {0})) (new : SeatView) :
+    Type 0 where
+  pub front : List NodeEntry
+  pub entry : NodeEntry
+  pub entries : book.entries ≡ front ++ entry ∷ []
+  pub called : Called old event entry.outcome new
+  pub asks : IfOk entry.outcome (AnswersAsk event)
+
+-- What a call does to its seat and is told, where the book may have the outcome.
+abbrev pub IsCalledIn : {S : Type 0} → BookView S → SeatView → Event (Unit {0}) → SeatView → Told → Type 0
+IsCalledIn book old event new (Copied outcome) = Called old event outcome new × IfOk outcome (AnswersAsk event)
+IsCalledIn book old event new InBook = IsLastIn book old event new
+
+-- The outcome is the last entry's, if there is a book with an entry.
+abbrev pub IsLastTold : {S : Type 0} → Option (Steps S) → Result (Reply (Unit {0})) StepFault → Type 0
+IsLastTold (Some (Recorded book)) outcome = (front : List NodeEntry) (e : NodeEntry) → book.entries ≡ front ++ e ∷ [] →
+    outcome ≡ e.outcome
+IsLastTold (Some (Alone node)) outcome = Unit {0}
+IsLastTold None outcome = Unit {0}

@@ -1,5 +1,5 @@
 -- The record of a node's history, which is kept for a check.
-use Rattle.std.specs.Prelude.{◌≡◌, ℕ, nat_lt, Bool, false, List, ◌++◌, Option, Some, None}
+use Rattle.std.specs.Prelude.{◌≡◌, ℕ, nat_lt, Bool, false, if◌then◌else◌, List, [], ◌++◌, Option, Some, None}
 use Rattle.node_rules.specs.State.{setting}
 use Rattle.node_core.specs.View.{NodeText}
 use Rattle.node_book.specs.declared.book.NodeEntry.{NodeEntry}
@@ -24,6 +24,43 @@ IsPart None r = ⊥
 IsPart (Some b) r = (before : List NodeEntry) × (r.node ≡ b.id)
     × Replays (setting b.roster b.id) b.opening before r.opening
     × Replays (setting b.roster b.id) r.opening r.entries r.closing
+
+-- The record is the end of the node's history: the entries before its own lead from the node's beginning to the state at
+-- which the record opens, and its own entries from there to the state at which it closes, all of them steps by the
+-- rules. [Record 1]
+abbrev pub IsEndOf : Option Beginning → List NodeEntry → Record → Type 0
+IsEndOf None log r = ⊥
+IsEndOf (Some b) log r = (before : List NodeEntry) × (log ≡ before ++ r.entries) × (r.node ≡ b.id)
+    × Replays (setting b.roster b.id) b.opening before r.opening
+    × Replays (setting b.roster b.id) r.opening r.entries r.closing
+
+-- The record of all that is in a book.
+abbrev pub record_of : {S : Type 0} → BookView S → Record
+record_of book = record { node = book.node.id; opening = book.opening; entries = book.entries; closing = book.node.state }
+
+-- The record of a node whose steps are recorded.
+abbrev pub open_record : {S : Type 0} → Option (Steps S) → Option Record
+open_record (Some (Recorded book)) = Some (record_of book)
+open_record (Some (Alone node)) = None
+open_record None = None
+
+-- The record that is kept, if one is: beside so many full pages the open one is kept. [Cluster 5]
+abbrev pub kept_record : {S : Type 0} → Retention → ℕ → Option (Steps S) → Option Record
+kept_record retention pages steps = if keeps retention pages then open_record steps else None
+
+-- The record that is kept after this one was taken: it opens where that one closed, and has no entries. [Record 1]
+abbrev pub next_record : Option Record → Option Record
+next_record None = None
+next_record (Some r) = Some (record { node = r.node; opening = r.closing; entries = []; closing = r.closing })
+
+-- What is known of a node that is held: its whole history, and the record that is kept of the history's end.
+pub record HeldView : Type 0 where
+  pub log : List NodeEntry
+  pub kept : Option Record
+
+-- The same after the record was taken.
+abbrev pub taken_from : HeldView → HeldView
+taken_from held = record held { kept = next_record held.kept }
 
 -- The node is the one of this beginning.
 abbrev pub IsOf : {S : Type 0} → NodeText (Unit {0}) S → Beginning → Type 0

@@ -1,5 +1,5 @@
 -- What a seat knows, and what a call by it adds.
-use Rattle.std.specs.Prelude.{◌≡◌, ◌⊎◌, ◌<◌, ℕ, ◌==◌, List, [], ◌∷◌, ◌++◌, length, slice_index_or, if◌then◌else◌, Result, Ok, Err}
+use Rattle.std.specs.Prelude.{◌≡◌, ◌⊎◌, ◌<◌, ℕ, ◌==◌, List, [], ◌∷◌, ◌++◌, length, slice_index_or, if◌then◌else◌, Result, Err}
 use Rattle.node_rules.specs.declared.event.Event.{Event}
 use Rattle.node_rules.specs.declared.reply.Reply.{Reply}
 use Rattle.node_rules.specs.declared.reply.StepFault.{StepFault}
@@ -30,24 +30,19 @@ pub record Adds (old : SeatView) (e : NodeEntry) (new : SeatView) : Type 0 where
   pub number : new.number ≡ old.number
   pub seen : new.seen ≡ (old.seen ++ others) ++ e ∷ []
 
--- What the caller is told of an outcome: the same reply, unless it could not be copied, or the same fault. [Book 4]
-abbrev pub IsToldOf : Result (Reply (Unit {0})) StepFault → Result (Reply (Unit {0})) StepFault → Type 0
-IsToldOf (Ok reply) told = (told ≡ Ok reply) ⊎ (told ≡ Err fault.NoMemory)
-IsToldOf (Err f) told = told ≡ Err f
-
 -- The entry of a call by this seat with this event.
 abbrev pub IsEntryOf : ℕ → Event (Unit {0}) → NodeEntry → Type 0
 IsEntryOf number event e = e ≡ record { seat = number; place = e.place; event = event; outcome = e.outcome }
 
--- The call is an entry of the history, and its outcome is what is told.
+-- The call is an entry of the history, and exactly its outcome is told. [Book 4]
 pub record IsEntered (old : SeatView) (event : Event (Unit {0})) (told : Result (Reply (Unit {0})) StepFault)
     (new : SeatView) : Type 0 where
   pub entry : NodeEntry
   pub adds : Adds old entry new
   pub of_call : IsEntryOf old.number event entry
-  pub told_of : IsToldOf entry.outcome told
+  pub told_of : told ≡ entry.outcome
 
--- No step was taken: there was no memory, or the node is closed.
+-- No step was taken and nothing was entered: there was no memory, or the node is closed.
 abbrev pub IsRefused : Result (Reply (Unit {0})) StepFault → Type 0
 IsRefused told = (told ≡ Err fault.NoMemory) ⊎ (told ≡ Err fault.Closed)
 

@@ -1,16 +1,16 @@
 //! What the lock of a shared node holds.
-ghost use Rattle.std.specs.Prelude.{◌≡◌, [], Some, IfOk, IfSome, IsFalse, OnErr};
+ghost use Rattle.std.specs.Prelude.{◌≡◌, [], Some, None, IfOk, IfSome, IsFalse, OnErr};
 ghost use Rattle.node_bytes.specs.Stepping.{AnswersAsk};
 ghost use Rattle.node_seats.specs.Beginning.{beginning_of};
-ghost use Rattle.node_seats.specs.Desks.{AreNewSteps, HasRoom, IsEndedIn, IsWithoutBook};
-ghost use Rattle.node_seats.specs.Desks.{with_page_filed};
-ghost use Rattle.node_seats.specs.Records.{IsPart, keeps};
+ghost use Rattle.node_seats.specs.Desks.{AreNewSteps, HasRoom, IsEndedIn, IsLastTold};
+ghost use Rattle.node_seats.specs.Desks.{IsWithoutBook, held_of, with_page_filed};
+ghost use Rattle.node_seats.specs.Records.{IsEndOf, keeps, taken_from};
 ghost use Rattle.node_seats.specs.Seats.{Called, IsNext};
 
-use crate::entering::{Told, enter_alone, enter_recorded};
+use crate::entering::{Outcome, Told, enter_alone, enter_recorded};
 use crate::places::Places;
 use crate::retention::Retention;
-use crate::seat::{Origin, Seat};
+use crate::seat::{NodeRun, Seat};
 use crate::steps::Steps;
 use crate::weight::octets_of;
 use crate::whole::Whole;
@@ -27,9 +27,9 @@ const MOST_OCTETS: u64 = 4_194_304;
 
 /// A node with its history, and with the record that is kept for a check.
 ///
-/// A contract sees the history, and the book.
+/// A contract sees all but the counter of places.
 #[derive(Drop)]
-pub(crate) struct Desk<S: FloorStore, J: Origin> {
+pub(crate) struct Desk<S: FloorStore, J: NodeRun> {
     /// The node, and its book if its steps are recorded. None once an entry could not be added to
     /// the history, which never happens.
     pub(crate) steps: Option<Steps<S>>,
@@ -45,7 +45,7 @@ pub(crate) struct Desk<S: FloorStore, J: Origin> {
     pub(crate) pages: u32,
 }
 
-impl<S: FloorStore, J: Origin> Model for Desk<S, J> {
+impl<S: FloorStore, J: NodeRun> Model for Desk<S, J> {
     ghost use Rattle.std.specs.Coded.{codes};
     ghost use Rattle.floor_rules.specs.Coded.{floors_code};
     ghost use Rattle.node_seats.specs.Desks.{DeskView};
@@ -60,12 +60,13 @@ impl<S: FloorStore, J: Origin> Model for Desk<S, J> {
       steps = desk.steps;
       pages = desk.pages;
       octets = desk.octets;
+      retention = desk.retention;
     } };
 
     ghost invariant = { λ desk. Stands J.beginning desk.whole desk.steps };
 }
 
-impl<S: FloorStore + Drop, J: Origin> Desk<S, J> {
+impl<S: FloorStore + Drop, J: NodeRun> Desk<S, J> {
     /// A node under a desk, before its first step.
     pub(crate) fn new(
         alloc: Global,
@@ -92,9 +93,9 @@ impl<S: FloorStore + Drop, J: Origin> Desk<S, J> {
     /// page is full, the next page begins before the call.
     ///
     /// Faults: those of the step. `NoMemory` also comes where there is no memory for the entry, and
-    /// no step is taken then; and where there is none for a copy of the reply, and the step stands
-    /// then.
-    pub(crate) fn call(&mut self, seat: &mut Seat<J>, event: Event<()>) -> Told
+    /// no step is taken then. Where there is none for a copy of the reply, all pages are dropped,
+    /// none is kept from then on, and the reply itself is returned.
+    pub(crate) fn call(&mut self, seat: &mut Seat<J>, event: Event<()>) -> Outcome
         ensures called { Called seat.old event result seat.new }
         ensures asks { IfOk result (AnswersAsk event) }
     {
@@ -117,8 +118,9 @@ impl<S: FloorStore + Drop, J: Origin> Desk<S, J> {
         }
     }
 
-    /// Takes the step of a call, and adds its entry to the history.
-    fn enter(&mut self, seat: &mut Seat<J>, event: Event<()>) -> Told
+    /// Takes the step of a call, and adds its entry to the history. Where the reply cannot be
+    /// copied, the pages are dropped for it.
+    fn enter(&mut self, seat: &mut Seat<J>, event: Event<()>) -> Outcome
         requires next { IsNext self.old.log seat.old }
         requires room { HasRoom self.old.octets self.old.steps }
         ensures called { Called seat.old event result seat.new }
@@ -129,8 +131,10 @@ impl<S: FloorStore + Drop, J: Origin> Desk<S, J> {
             Some(Steps::Recorded(book)) => {
                 book.is_replayed();
                 self.octets += octets_of(&event);
-                if let Some(told) = enter_recorded(book, &mut self.whole, seat, place, event) {
-                    return told;
+                match enter_recorded(book, &mut self.whole, seat, place, event) {
+                    Some(Told::Copied(outcome)) => return outcome,
+                    Some(Told::InBook) => return self.forget_but_last(),
+                    None => {}
                 }
             }
             Some(Steps::Alone(node)) => {
@@ -142,6 +146,28 @@ impl<S: FloorStore + Drop, J: Origin> Desk<S, J> {
         }
         self.steps = None;
         Err(StepFault::Closed)
+    }
+
+    /// Drops all pages, and keeps none from then on. Returns the outcome of the last entry, moved
+    /// out of it. It takes no memory.
+    fn forget_but_last(&mut self) -> Outcome
+        ensures last { IsLastTold self.old.steps result }
+        ensures alone { IsWithoutBook self.old.steps self.new.steps }
+        ensures same { self.new.log ≡ self.old.log }
+    {
+        self.retention = Retention::Dropped;
+        self.octets = 0;
+        match self.steps.take() {
+            Some(Steps::Recorded(book)) => {
+                let (node, last) = book.into_node_and_last();
+                self.steps = Some(Steps::Alone(node));
+                last.unwrap_or(Err(StepFault::NoMemory))
+            }
+            other => {
+                self.steps = other;
+                Err(StepFault::NoMemory)
+            }
+        }
     }
 
     /// Ends the open page and begins the next one; or, where it would not be kept, drops all pages
@@ -163,6 +189,7 @@ impl<S: FloorStore + Drop, J: Origin> Desk<S, J> {
     fn forget(&mut self)
         ensures room { HasRoom self.new.octets self.new.steps }
         ensures same { self.new.log ≡ self.old.log }
+        ensures none { (held_of self.new).kept ≡ None }
     {
         self.steps = without_book(self.steps.take());
         self.retention = Retention::Dropped;
@@ -172,10 +199,17 @@ impl<S: FloorStore + Drop, J: Origin> Desk<S, J> {
     /// Takes out the record of all pages, and begins the next one; or takes none, where none is
     /// kept. It copies the node's state twice. Where there is no memory for that, nothing changes.
     pub(crate) fn take_record(&mut self) -> Result<Option<Record>, AllocError>
-        ensures { IfOk result (λ taken. IfSome taken (IsPart J.beginning)) }
+        ensures taken { IfOk result (λ taken. taken ≡ (held_of self.old).kept) }
+        ensures next { IfOk result (λ _. held_of self.new ≡ taken_from (held_of self.old)) }
+        ensures end { IfOk result (λ taken. IfSome taken (IsEndOf J.beginning self.old.log)) }
+        ensures empty { IfOk result (λ taken. IfSome taken (λ _. (self.new.pages ≡ 0)
+            × (self.new.octets ≡ 0)
+            × (self.new.retention ≡ self.old.retention))) }
+        ensures same { OnErr result (self.new ≡ self.old) }
     {
         if !is_kept(self.retention, self.pages) {
             self.forget();
+            return Ok(None);
         }
         let taken = end_record(&mut self.steps)?;
         self.pages = 0;

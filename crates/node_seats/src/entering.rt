@@ -4,10 +4,10 @@ ghost use Rattle.floor_rules.specs.Store.{HaveRisen};
 ghost use Rattle.node_bytes.specs.Stepping.{AnswersAsk};
 ghost use Rattle.node_seats.specs.Beginning.{LeadsToNode};
 ghost use Rattle.node_seats.specs.Seats.{Called, IsNext};
-ghost use Rattle.node_seats.specs.Desks.{IsEnteredIn, IsTakenIn};
+ghost use Rattle.node_seats.specs.Desks.{IsCalledIn, IsEnteredIn, IsTakenIn};
 
 use crate::kept::Kept;
-use crate::seat::{Origin, Seat};
+use crate::seat::{NodeRun, Seat};
 use crate::whole::Whole;
 use floor_rules::FloorStore;
 use node_book::{BookFault, NodeBook, NodeEntry};
@@ -17,9 +17,18 @@ use node_rules::{Event, Reply, StepFault};
 use values_history::{Entry, Itself};
 
 /// What a seat is told of a step.
-pub(crate) type Told = Result<Reply<()>, StepFault>;
+pub(crate) type Outcome = Result<Reply<()>, StepFault>;
 
-/// Takes a step and enters it in the book. Returns what the seat is told; None where there is no
+/// What is told of a step that is entered in a book.
+#[derive(Drop)]
+pub(crate) enum Told {
+    /// Its outcome.
+    Copied(Outcome),
+    /// There was no memory for a copy of its reply. The last entry of the book has it.
+    InBook,
+}
+
+/// Takes a step and enters it in the book. Returns what is told of it; None where there is no
 /// memory for the entry, and no step is taken then.
 fn apply<S: FloorStore>(
     book: &mut NodeBook<S>,
@@ -32,20 +41,19 @@ fn apply<S: FloorStore>(
         (S.may_find book.new.node.store)
         (HaveRisen (S.failed book.old.node.store) (S.failed book.new.node.store))
         book.old book.new seat event) }
-    ensures asks { IfSome result (λ told. IfOk told (AnswersAsk event)) }
     ensures none { IfNone result (book.new ≡ book.old) }
 {
     match book.apply(seat, place, event) {
-        Ok(reply) => Some(Ok(reply)),
-        Err(BookFault::Step(fault)) => Some(Err(fault)),
-        Err(BookFault::ReplyLost) => Some(Err(StepFault::NoMemory)),
+        Ok(reply) => Some(Told::Copied(Ok(reply))),
+        Err(BookFault::Step(fault)) => Some(Told::Copied(Err(fault))),
+        Err(BookFault::ReplyLost) => Some(Told::InBook),
         Err(BookFault::NoMemory) | Err(BookFault::ShiftFull) => None,
     }
 }
 
-/// Takes a step that is entered in the book and in the history. Returns what the seat is told; None
+/// Takes a step that is entered in the book and in the history. Returns what is told of it; None
 /// where the entry could not be added to the history, which never happens.
-pub(crate) fn enter_recorded<S: FloorStore, J: Origin>(
+pub(crate) fn enter_recorded<S: FloorStore, J: NodeRun>(
     book: &mut NodeBook<S>,
     whole: &mut Whole<J>,
     seat: &mut Seat<J>,
@@ -55,14 +63,13 @@ pub(crate) fn enter_recorded<S: FloorStore, J: Origin>(
     requires next { IsNext whole.old seat.old }
     requires leads { LeadsToNode J.beginning whole.old book.old.node }
     requires room { length book.old.entries < book.old.filed + 4096 }
-    ensures called { IfSome result (λ told. Called seat.old event told seat.new) }
-    ensures asks { IfSome result (λ told. IfOk told (AnswersAsk event)) }
+    ensures called { IfSome result (IsCalledIn book.new seat.old event seat.new) }
     ensures entered { IfSome result (λ _. IsEnteredIn book.old book.new whole.old whole.new) }
     ensures lost { IfNone result (seat.new ≡ seat.old) }
 {
     let entered = book.entries().len();
     let Some(told) = apply(book, seat.number, place, event) else {
-        return Some(Err(StepFault::NoMemory));
+        return Some(Told::Copied(Err(StepFault::NoMemory)));
     };
     if !whole.add::<NodeEntry, Itself>(seat, &book.entries()[entered]) {
         return None;
@@ -72,17 +79,17 @@ pub(crate) fn enter_recorded<S: FloorStore, J: Origin>(
 
 /// A step that was taken, of which no entry is kept. Its event was moved on: only proofs have it.
 #[derive(Drop)]
-struct Taken {
+struct StepTaken {
     seat: u8,
     place: u64,
     event: Kept<Event<()>>,
-    outcome: Told,
+    outcome: Outcome,
 }
 
 /// The entry of a step that was taken.
 struct Entered;
 
-impl Entry<Taken, NodeEntry> for Entered {
+impl Entry<StepTaken, NodeEntry> for Entered {
     ghost of = { λ taken. record {
       seat = taken.seat;
       place = taken.place;
@@ -94,13 +101,13 @@ impl Entry<Taken, NodeEntry> for Entered {
 /// Takes a step that is entered in the history alone, so that nothing of it is kept. Returns what
 /// the seat is told; None where the entry could not be added, which never happens. It takes no
 /// memory beside the step.
-pub(crate) fn enter_alone<S: FloorStore, J: Origin>(
+pub(crate) fn enter_alone<S: FloorStore, J: NodeRun>(
     node: &mut Node<(), S>,
     whole: &mut Whole<J>,
     seat: &mut Seat<J>,
     place: u64,
     event: Event<()>,
-) -> Option<Told>
+) -> Option<Outcome>
     requires next { IsNext whole.old seat.old }
     requires leads { LeadsToNode J.beginning whole.old node.old }
     ensures called { IfSome result (λ told. Called seat.old event told seat.new) }
@@ -110,13 +117,13 @@ pub(crate) fn enter_alone<S: FloorStore, J: Origin>(
 {
     let kept = Kept::of(&event)?;
     let outcome = Stepper::step(node, event);
-    let taken = Taken {
+    let taken = StepTaken {
         seat: seat.number,
         place,
         event: kept,
         outcome,
     };
-    if !whole.add::<Taken, Entered>(seat, &taken) {
+    if !whole.add::<StepTaken, Entered>(seat, &taken) {
         return None;
     }
     Some(taken.outcome)

@@ -45,6 +45,6 @@ mod whole;
 pub use at_seat::AtSeat;
 pub use places::Places;
 pub use retention::Retention;
-pub use seat::{Origin, Seat};
+pub use seat::{NodeRun, Seat};
 pub use shared::{Held, SharedNode};
 pub use weight::octets_of;

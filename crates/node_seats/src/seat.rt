@@ -6,14 +6,14 @@ use std::marker::{Brand, Model};
 use values_history::{Front, Run};
 
 /// Which run of which node it is, and how its history begins.
-pub trait Origin: Run {
+pub trait NodeRun: Run {
     ghost use Rattle.std.specs.Prelude.{Option};
     ghost use Rattle.node_seats.specs.Beginning.{Beginning};
 
     ghost beginning: { Option Beginning };
 }
 
-impl Origin for Brand {
+impl NodeRun for Brand {
     ghost use Rattle.std.specs.Prelude.{None};
 
     ghost beginning = { None };
@@ -25,7 +25,7 @@ impl Origin for Brand {
 /// is a beginning of the one history of the node, and its entries are steps by the rules, from the
 /// node's beginning on. In memory a seat is three numbers.
 #[derive(Drop)]
-pub struct Seat<J: Origin> {
+pub struct Seat<J: NodeRun> {
     /// Its number, from 0.
     pub(crate) number: u8,
     /// How many calls were made by it.
@@ -34,7 +34,7 @@ pub struct Seat<J: Origin> {
     pub(crate) front: Front<NodeEntry, J>,
 }
 
-impl<J: Origin> Model for Seat<J> {
+impl<J: NodeRun> Model for Seat<J> {
     ghost use Rattle.std.specs.Prelude.{◌≡◌, length};
     ghost use Rattle.node_seats.specs.Beginning.{IsHistory};
     ghost use Rattle.node_seats.specs.Seats.{SeatView, entries_of};

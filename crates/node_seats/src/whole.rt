@@ -3,7 +3,7 @@ ghost use Rattle.std.specs.Prelude.{◌≡◌, ◌++◌, ◌∷◌, [], length, 
 ghost use Rattle.node_seats.specs.Beginning.{IsHistory};
 ghost use Rattle.node_seats.specs.Seats.{Adds, IsNext};
 
-use crate::seat::{Origin, Seat};
+use crate::seat::{NodeRun, Seat};
 use node_book::NodeEntry;
 use std::alloc::{AllocError, Global};
 use std::marker::Model;
@@ -13,14 +13,14 @@ use values_history::{Entry, Front, Head};
 ///
 /// A contract sees its entries.
 #[derive(Drop)]
-pub(crate) struct Whole<J: Origin> {
+pub(crate) struct Whole<J: NodeRun> {
     head: Head<NodeEntry, J>,
     front: Front<NodeEntry, J>,
     /// The number of entries of each seat, by the seat's number.
     counts: Vec<u64>,
 }
 
-impl<J: Origin> Model for Whole<J> {
+impl<J: NodeRun> Model for Whole<J> {
     ghost use Rattle.std.specs.Prelude.{List};
     ghost use Rattle.node_book.specs.declared.book.NodeEntry.{NodeEntry};
     ghost use Rattle.node_seats.specs.Seats.{AreCounts};
@@ -32,7 +32,7 @@ impl<J: Origin> Model for Whole<J> {
     ghost invariant = { λ whole. AreCounts whole.counts.items whole.front };
 }
 
-impl<J: Origin> Whole<J> {
+impl<J: NodeRun> Whole<J> {
     /// A history without entries, for this many seats.
     pub(crate) fn new(
         alloc: Global,

@@ -5,7 +5,7 @@ use std::mem::replace;
 use std::sync::{Condvar, Mutex, Wait};
 
 /// What became of a record that was asked for: the record, if one is kept.
-pub(crate) type Taken = Result<Option<Record>, StopFault>;
+pub(crate) type TakenRecord = Result<Option<Record>, StopFault>;
 
 /// Where the node's thread and the thread that holds the node stand.
 #[derive(Drop)]
@@ -19,7 +19,7 @@ enum Stand {
     /// It is held, and its record is asked for.
     Asked,
     /// It is held, and this is its record.
-    Given(Taken),
+    Given(TakenRecord),
     /// Its thread has ended.
     Ended,
 }
@@ -60,7 +60,7 @@ impl Halt {
     }
 
     /// The node's thread gives the record that was asked for.
-    pub(crate) fn give<R: Wait>(&self, rt: &R, taken: Taken) {
+    pub(crate) fn give<R: Wait>(&self, rt: &R, taken: TakenRecord) {
         let mut stand = self.stand.lock(rt);
         if matches!(*stand, Stand::Asked) {
             *stand = Stand::Given(taken);
@@ -87,7 +87,7 @@ impl Halt {
 
     /// Asks for the record of a node that is held, and waits for it. `Ended` comes where its
     /// thread has ended.
-    pub(crate) fn ask<R: Wait>(&self, rt: &R) -> Taken {
+    pub(crate) fn ask<R: Wait>(&self, rt: &R) -> TakenRecord {
         let mut stand = self.stand.lock(rt);
         if matches!(*stand, Stand::Held) {
             *stand = Stand::Asked;

@@ -2,7 +2,8 @@
 //!
 //! [`Workers::start`] opens a node's sockets and starts the node's thread. That thread starts 2 to
 //! 8 workers. It then polls the [`NodeLoop`](cluster_sockets::NodeLoop) until the node is stopped,
-//! and queues a timer for each round of queries that has waited for the roster's `query_wait`.
+//! and queues a timer for each round of queries that has waited for the roster's `query_wait`. A
+//! step at the end of a round or a fetch that found no memory is queued again, one at each poll.
 //! `cluster_service` says what a worker does with a job, and the event loop with a question.
 //! Workers leave fetches, and responses that clients do not take at once, to the event loop, which
 //! waits for all of them together. So no worker waits for a client, a peer or an origin.

@@ -12,7 +12,7 @@ use cluster_sockets::NodeLoop;
 use floor_rules::FloorStore;
 use node_book::{NodeEntry, Record};
 use node_core::Node;
-use node_seats::{Origin, Places, Retention, Seat, SharedNode};
+use node_seats::{NodeRun, Places, Retention, Seat, SharedNode};
 use std::alloc::Global;
 use std::marker::Brand;
 use std::net::{Net, TcpListener, TcpStream};
@@ -55,7 +55,7 @@ pub(crate) struct Edge<G: Drop> {
 /// writes the responses that are under way on, for five seconds at most.
 fn run_edge<
     Q: Run + Send + Sync,
-    J: Origin + Send + Sync,
+    J: NodeRun + Send + Sync,
     S: FloorStore + Drop + Send,
     G: Gate + Drop + Send + Sync,
     R: Threads + Wait + Clock + Net<Listener = TcpListener, Stream = TcpStream> + Sync,
@@ -89,7 +89,7 @@ fn run_edge<
 }
 
 /// The record of a node that is stopped.
-fn record_of<S: FloorStore + Drop, J: Origin, R: Wait>(
+fn record_of<S: FloorStore + Drop, J: NodeRun, R: Wait>(
     rt: &R,
     node: &SharedNode<S, J>,
 ) -> Result<Option<Record>, StopFault> {
@@ -102,7 +102,7 @@ fn record_of<S: FloorStore + Drop, J: Origin, R: Wait>(
 /// Runs a node under the names of its queue and of its history.
 fn run_named<
     Q: Run + Send + Sync,
-    J: Origin + Send + Sync,
+    J: NodeRun + Send + Sync,
     S: FloorStore + Drop + Send,
     G: Gate + Drop + Send + Sync,
     R: Threads + Wait + Clock + Net<Listener = TcpListener, Stream = TcpStream> + Sync,

@@ -2,16 +2,16 @@
 ghost use Rattle.std.specs.Thread.{IsSend};
 
 use crate::fault::{StopFault, Unready};
-use crate::halt::{Halt, Taken};
+use crate::halt::{Halt, TakenRecord};
 use crate::signals::Signals;
 use cluster_jobs::{Job, Jobs, Pass, Run};
 use cluster_service::{
-    Gate, Questions, Seated, Station, Worker, milliseconds, refuse_job, tell_late,
+    Gate, Questions, Seated, Station, Worker, again, milliseconds, refuse_job, tell_late,
 };
 use cluster_sockets::{Delivery, NodeLoop};
 use floor_rules::FloorStore;
 use node_bytes::Stepper;
-use node_seats::{AtSeat, Held, Origin, Seat, SharedNode};
+use node_seats::{AtSeat, Held, NodeRun, Seat, SharedNode};
 use std::alloc::Global;
 use std::net::{Net, TcpListener, TcpStream};
 use std::sync::Wait;
@@ -25,7 +25,7 @@ const MOST_TIMERS: u32 = 256;
 
 /// What the threads of a node share.
 #[derive(Drop)]
-pub(crate) struct Shared<'a, Q: Run, S: FloorStore + Drop, J: Origin, G: Gate + Drop, R> {
+pub(crate) struct Shared<'a, Q: Run, S: FloorStore + Drop, J: NodeRun, G: Gate + Drop, R> {
     /// The allocator.
     pub(crate) alloc: Global,
     /// The clock, the network and the locks of the system.
@@ -42,7 +42,7 @@ pub(crate) struct Shared<'a, Q: Run, S: FloorStore + Drop, J: Origin, G: Gate + 
 
 /// What takes the steps of a node by this seat, for the thread that owns it. `kept` is where short
 /// pieces of a response are kept.
-fn seated<'a, Q: Run, S: FloorStore + Drop, J: Origin, G: Gate + Drop, R: Wait>(
+fn seated<'a, Q: Run, S: FloorStore + Drop, J: NodeRun, G: Gate + Drop, R: Wait>(
     shared: &Shared<'a, Q, S, J, G, R>,
     seat: Seat<J>,
     kept: Vec<u8>,
@@ -84,7 +84,7 @@ fn do_jobs<N: Stepper + Drop, Q: Run, G: Gate + Drop, R: Wait + Clock>(
 }
 
 /// Runs the thread of a worker, which owns this seat and this buffer.
-fn work<Q: Run, S: FloorStore + Drop, J: Origin, G: Gate + Drop, R: Wait + Clock>(
+fn work<Q: Run, S: FloorStore + Drop, J: NodeRun, G: Gate + Drop, R: Wait + Clock>(
     shared: &Shared<'_, Q, S, J, G, R>,
     seat: Seat<J>,
     kept: Vec<u8>,
@@ -103,7 +103,7 @@ fn start_workers<
     E,
     Q: Run + Send + Sync,
     S: FloorStore + Drop + Send,
-    J: Origin + Send + Sync,
+    J: NodeRun + Send + Sync,
     G: Gate + Drop + Send + Sync,
     R: Threads + Wait + Clock + Net<Listener = TcpListener, Stream = TcpStream> + Sync,
 >(
@@ -131,24 +131,45 @@ fn start_workers<
     (pass, started)
 }
 
+/// Queues one of the steps that found no memory, to be taken again; one that finds its lane full is
+/// noted again. It is called once at each pass of the loop, and an idle loop passes every 10 ms. So
+/// within about ten seconds after memory is back the steps of all 1,024 requests that may be
+/// pending are taken, and they give back their places as others do. While memory lacks, one step a
+/// pass is tried in vain.
+fn put_owed<Q: Run, G: Drop, R: Wait>(
+    rt: &R,
+    station: &Station<G>,
+    jobs: &Jobs<Q>,
+    pass: Pass<Q>,
+) -> Pass<Q> {
+    let Some(step) = station.tables.take_owed(rt) else {
+        return pass;
+    };
+    let (pass, put) = jobs.put(rt, pass, again(step));
+    if put.is_err() {
+        station.tables.note_owed(rt, step);
+    }
+    pass
+}
+
 /// Queues a timer for each round whose deadline has come, 256 at most. A timer that finds its lane
-/// full is owed: it is put first the next time.
+/// full is late: it is put first the next time.
 fn put_due<Q: Run, G: Drop, R: Wait + Clock>(
     rt: &R,
     station: &Station<G>,
     jobs: &Jobs<Q>,
     mut pass: Pass<Q>,
-    owed: &mut Option<u32>,
+    late: &mut Option<u32>,
 ) -> Pass<Q> {
     let now = milliseconds(rt);
     for _ in 0..MOST_TIMERS {
-        let Some(serial) = owed.take().or_else(|| station.tables.due(rt, now)) else {
+        let Some(serial) = late.take().or_else(|| station.tables.due(rt, now)) else {
             break;
         };
         let (after, put) = jobs.put(rt, pass, Job::Timer { serial });
         pass = after;
         if put.is_err() {
-            *owed = Some(serial);
+            *late = Some(serial);
             break;
         }
     }
@@ -156,7 +177,7 @@ fn put_due<Q: Run, G: Drop, R: Wait + Clock>(
 }
 
 /// Takes out the record of a node that is held.
-fn record_of<S: FloorStore + Drop, J: Origin>(held: &mut Held<'_, S, J>) -> Taken {
+fn record_of<S: FloorStore + Drop, J: NodeRun>(held: &mut Held<'_, S, J>) -> TakenRecord {
     match held.take_record() {
         Ok(record) => Ok(record),
         Err(_) => Err(StopFault::NoMemory),
@@ -165,7 +186,7 @@ fn record_of<S: FloorStore + Drop, J: Origin>(held: &mut Held<'_, S, J>) -> Take
 
 /// Holds the node under its lock until it is to go on, and gives its record whenever it is asked
 /// for.
-fn hold<S: FloorStore + Drop, J: Origin, R: Wait>(rt: &R, halt: &Halt, node: &SharedNode<S, J>) {
+fn hold<S: FloorStore + Drop, J: NodeRun, R: Wait>(rt: &R, halt: &Halt, node: &SharedNode<S, J>) {
     let mut held = node.hold(rt);
     for _ in rt.forever() {
         if !halt.stand_by(rt) {
@@ -199,7 +220,7 @@ fn refuse_rest<Q: Run, G: Gate + Drop, R: Wait + Clock>(
 fn poll_until_stopped<
     Q: Run,
     S: FloorStore + Drop,
-    J: Origin,
+    J: NodeRun,
     G: Gate + Drop,
     R: Net + Wait + Clock,
 >(
@@ -213,7 +234,7 @@ fn poll_until_stopped<
     let halt = &shared.signals.halt;
     let node = shared.node;
     let mut questions = Questions::new(station, AtSeat { rt, node, seat });
-    let mut owed = None;
+    let mut late = None;
     for _ in rt.forever() {
         if station.is_stopped() {
             break;
@@ -223,7 +244,8 @@ fn poll_until_stopped<
         }
         let (after, _) = poller.poll_once(rt, jobs, pass, &mut questions);
         // (what came before a deadline is queued before it)
-        pass = put_due(rt, station, jobs, after, &mut owed);
+        let after = put_due(rt, station, jobs, after, &mut late);
+        pass = put_owed(rt, station, jobs, after);
         tell_late(rt, station, kept);
         if poller.has_lacked_descriptors() {
             shared.signals.has_lacked.store(true, Ordering::SeqCst);
@@ -239,7 +261,7 @@ fn poll_until_stopped<
 pub(crate) fn run_threads<
     Q: Run + Send + Sync,
     S: FloorStore + Drop + Send,
-    J: Origin + Send + Sync,
+    J: NodeRun + Send + Sync,
     G: Gate + Drop + Send + Sync,
     R: Threads + Wait + Clock + Net<Listener = TcpListener, Stream = TcpStream> + Sync,
 >(

@@ -114,7 +114,7 @@ fn station<G: Gate + Drop>(
     match roster.copy(alloc) {
         Ok(roster) => Ok(Station::new(
             alloc, roster, id, peers, senders, inbox, is_stopped, closing, gate,
-        )),
+        )?),
         Err(_) => Err(Unready::NoMemory),
     }
 }

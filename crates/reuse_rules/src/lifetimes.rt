@@ -20,7 +20,8 @@ use http_messages::{Answer, Field};
 /// - with a `cache-control` directive `no-store`, `private` or `no-cache`, with or without a value
 ///   (sections 5.2.2.4, 5.2.2.5 and 5.2.2.7);
 /// - with a `cache-control` field in which a quoted string is not closed, or begins elsewhere than
-///   at the start of a directive or of a value, since such a directive may stand behind the quote.
+///   behind `,`, `;` or `=`, or at the start of the field's value, since such a directive may stand
+///   behind the quote.
 ///
 /// Else the lifetime is the value of the first `s-maxage` (section 5.2.2.10), else that of the
 /// first `max-age` (5.2.2.1). Without either, a response with an `expires` field is not stored

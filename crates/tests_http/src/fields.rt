@@ -144,7 +144,7 @@ const LENGTHS: [Row; 19] = [
 ];
 
 /// Whether a body comes in chunks.
-const CODINGS: [Row; 12] = [
+const CODINGS: [Row; 24] = [
     (b"a: chunked\r\n\r\n", Saying::Coding(Ok(false))),
     (
         b"Transfer-Encoding: chunked\r\n\r\n",
@@ -190,10 +190,59 @@ const CODINGS: [Row; 12] = [
         b"transfer-encoding:\r\n\r\n",
         Saying::Coding(Err(BadCoding)),
     ),
+    // Empty members of the list, which several fields are together.
+    (
+        b"transfer-encoding: , chunked\r\n\r\n",
+        Saying::Coding(Ok(true)),
+    ),
+    (
+        b"transfer-encoding: chunked,\r\n\r\n",
+        Saying::Coding(Ok(true)),
+    ),
+    (
+        b"transfer-encoding: ,Chunked\t, ,\r\n\r\n",
+        Saying::Coding(Ok(true)),
+    ),
+    (
+        b"transfer-encoding: chunked\r\ntransfer-encoding:\r\n\r\n",
+        Saying::Coding(Ok(true)),
+    ),
+    (
+        b"transfer-encoding: ,\r\na: b\r\nTransfer-Encoding: , chunked\r\n\r\n",
+        Saying::Coding(Ok(true)),
+    ),
+    (
+        b"transfer-encoding: , ,\r\n\r\n",
+        Saying::Coding(Err(BadCoding)),
+    ),
+    (
+        b"transfer-encoding: chunked,, chunked\r\n\r\n",
+        Saying::Coding(Err(BadCoding)),
+    ),
+    (
+        b"transfer-encoding: , gzip\r\n\r\n",
+        Saying::Coding(Err(BadCoding)),
+    ),
+    (
+        b"transfer-encoding: chunked\r\ntransfer-encoding: gzip\r\n\r\n",
+        Saying::Coding(Err(BadCoding)),
+    ),
+    (
+        b"transfer-encoding: gzip\r\ntransfer-encoding: chunked\r\n\r\n",
+        Saying::Coding(Err(BadCoding)),
+    ),
+    (
+        b"transfer-encoding: \"\", chunked\r\n\r\n",
+        Saying::Coding(Err(BadCoding)),
+    ),
+    (
+        b"transfer-encoding: \"a, chunked\r\n\r\n",
+        Saying::Coding(Err(BadCoding)),
+    ),
 ];
 
 /// How the body of an answer ends.
-const ENDS: [Row; 11] = [
+const ENDS: [Row; 14] = [
     (b"\r\n", Saying::Ends(Ok(Framing::ToEnd))),
     (
         b"content-length: 7\r\n\r\n",
@@ -211,6 +260,10 @@ const ENDS: [Row; 11] = [
         b"transfer-encoding: chunked\r\n\r\n",
         Saying::Ends(Ok(Framing::Chunked)),
     ),
+    (
+        b"transfer-encoding: , chunked\r\n\r\n",
+        Saying::Ends(Ok(Framing::Chunked)),
+    ),
     // What requests are smuggled with.
     (
         b"content-length: 7\r\ntransfer-encoding: chunked\r\n\r\n",
@@ -222,6 +275,14 @@ const ENDS: [Row; 11] = [
     ),
     (
         b"transfer-encoding: chunked\r\ncontent-length: x\r\n\r\n",
+        Saying::Ends(Err(FetchFault::BadBody)),
+    ),
+    (
+        b"transfer-encoding: chunked,\r\ncontent-length: 7\r\n\r\n",
+        Saying::Ends(Err(FetchFault::BadBody)),
+    ),
+    (
+        b"transfer-encoding: ,\r\ncontent-length: 7\r\n\r\n",
         Saying::Ends(Err(FetchFault::BadBody)),
     ),
     (
@@ -239,7 +300,7 @@ const ENDS: [Row; 11] = [
 ];
 
 /// Whether an ask has a body.
-const BODIES: [Row; 11] = [
+const BODIES: [Row; 13] = [
     (b"\r\n", Saying::HasBody(false)),
     (b"content-length: 0\r\n\r\n", Saying::HasBody(false)),
     (b"content-length: 00\r\n\r\n", Saying::HasBody(false)),
@@ -263,6 +324,11 @@ const BODIES: [Row; 11] = [
         b"transfer-encoding:\r\ncontent-length: 0\r\n\r\n",
         Saying::HasBody(true),
     ),
+    (
+        b"transfer-encoding: , chunked\r\n\r\n",
+        Saying::HasBody(true),
+    ),
+    (b"transfer-encoding: ,\r\n\r\n", Saying::HasBody(true)),
 ];
 
 /// The member that asks.

@@ -2,7 +2,7 @@
 //! that fail.
 use crate::made::{Flags, LENGTHS, Parts, Pieces, is_answer, is_ask};
 use http_messages::{Answer, Ask, FetchFault};
-use http_reading::{lower_version, read_answer, read_ask};
+use http_reading::{lower_version, lower_versions, read_answer, read_ask};
 use std::alloc::Global;
 use std::process::Abort;
 use url_key::KeyFault;
@@ -16,7 +16,7 @@ fn answer_of(alloc: Global, text: &[u8], length: usize) -> Result<Answer, FetchF
 }
 
 /// Asks that are refused.
-const FAULTS_OF_ASKS: [(&[u8], FetchFault); 16] = [
+const FAULTS_OF_ASKS: [(&[u8], FetchFault); 17] = [
     (b"", FetchFault::EndOfInput),
     (b"GET / HTTP/1.1\r\nhost: o\r\n", FetchFault::EndOfInput),
     (b"GET / HTTP/1.1\r\n\r\n", FetchFault::BadHead),
@@ -61,6 +61,10 @@ const FAULTS_OF_ASKS: [(&[u8], FetchFault); 16] = [
     ),
     (
         b"GET /a HTTP/1.1\r\nhost: o\r\ntransfer-encoding: chunked\r\n\r\n",
+        FetchFault::BadBody,
+    ),
+    (
+        b"GET /a HTTP/1.1\r\nhost: o\r\ntransfer-encoding: , chunked\r\n\r\n",
         FetchFault::BadBody,
     ),
 ];
@@ -263,6 +267,66 @@ fn later_versions_count_as_1(rt: HostRuntime) {
     }
 }
 
+/// Responses, and what is read in their place: a later minor version of HTTP/1 counts as 1, in the
+/// head of each interim response too, and in nothing else (RFC 9110, sections 6.2 and 15.2).
+const VERSIONS_OF_ANSWERS: [(&[u8], &[u8]); 16] = [
+    (b"HTTP/1.2 200 OK\r\n\r\none", b"HTTP/1.1 200 OK\r\n\r\none"),
+    (b"\r\n\nHTTP/1.9 404 \n\n", b"\r\n\nHTTP/1.1 404 \n\n"),
+    (
+        b"HTTP/1.2 100 \r\n\r\nHTTP/1.3 103 \na: b\n\nHTTP/1.4 200 \r\n\r\n",
+        b"HTTP/1.1 100 \r\n\r\nHTTP/1.1 103 \na: b\n\nHTTP/1.1 200 \r\n\r\n",
+    ),
+    (
+        b"HTTP/1.1 100 \r\n\r\nHTTP/1.0 103 \r\n\r\n\r\nHTTP/1.2 200 \r\n\r\n",
+        b"HTTP/1.1 100 \r\n\r\nHTTP/1.0 103 \r\n\r\n\r\nHTTP/1.1 200 \r\n\r\n",
+    ),
+    // No body, no field and no head behind 101.
+    (
+        b"HTTP/1.2 200 OK\r\nx: HTTP/1.2\r\n\r\nHTTP/1.2 200 OK\r\n\r\n",
+        b"HTTP/1.1 200 OK\r\nx: HTTP/1.2\r\n\r\nHTTP/1.2 200 OK\r\n\r\n",
+    ),
+    (
+        b"HTTP/1.2 103 \r\nHTTP/1.2 200 \r\n\r\nHTTP/1.2 204 \r\n\r\nHTTP/1.2 ",
+        b"HTTP/1.1 103 \r\nHTTP/1.2 200 \r\n\r\nHTTP/1.1 204 \r\n\r\nHTTP/1.2 ",
+    ),
+    (
+        b"HTTP/1.2 101 \r\n\r\nHTTP/1.2 200 \r\n\r\n",
+        b"HTTP/1.1 101 \r\n\r\nHTTP/1.2 200 \r\n\r\n",
+    ),
+    (b"HTTP/1.0 200 \r\n\r\n", b"HTTP/1.0 200 \r\n\r\n"),
+    (b"HTTP/1.1 200 \r\n\r\n", b"HTTP/1.1 200 \r\n\r\n"),
+    (b"HTTP/2.2 200 \r\n\r\n", b"HTTP/2.2 200 \r\n\r\n"),
+    (b"http/1.2 200 \r\n\r\n", b"http/1.2 200 \r\n\r\n"),
+    (b" HTTP/1.2 200 \r\n\r\n", b" HTTP/1.2 200 \r\n\r\n"),
+    // What has come in part.
+    (b"HTTP/1.2", b"HTTP/1.1"),
+    (b"HTTP/1.2 103 \r\na: b\r\n", b"HTTP/1.1 103 \r\na: b\r\n"),
+    (b"HTTP/1.", b"HTTP/1."),
+    (b"", b""),
+];
+
+/// The octets of a text as they are read where they come one by one, and those that have come are
+/// given again with each.
+fn lowered_octet_by_octet(rt: &(impl Abort + AllocGlobal), text: &[u8]) -> Vec<u8> {
+    let mut octets = Vec::new(rt.alloc());
+    for octet in text {
+        octets.push(*octet).expect(rt, "memory");
+        lower_versions(octets.as_mut_slice());
+    }
+    octets
+}
+
+#[test]
+fn later_versions_of_answers_count_as_1(rt: HostRuntime) {
+    for (text, expected) in &VERSIONS_OF_ANSWERS {
+        let mut octets = text.to_vec(rt.alloc()).expect(&rt, "memory");
+        lower_versions(octets.as_mut_slice());
+        assert!(rt; octets.as_slice() == *expected, "{text:?}");
+        let octets = lowered_octet_by_octet(&rt, text);
+        assert!(rt; octets.as_slice() == *expected, "{text:?} octet by octet");
+    }
+}
+
 #[test]
 fn faults_of_asks(rt: HostRuntime) {
     for (text, expected) in &FAULTS_OF_ASKS {
@@ -274,7 +338,7 @@ fn faults_of_asks(rt: HostRuntime) {
 }
 
 /// Answers that are refused.
-const FAULTS_OF_ANSWERS: [(&[u8], FetchFault); 17] = [
+const FAULTS_OF_ANSWERS: [(&[u8], FetchFault); 20] = [
     (b"", FetchFault::EndOfInput),
     (b"HTTP/1.1 200 \r\n", FetchFault::EndOfInput),
     (b"HTTP/1.1 101 \r\n\r\n", FetchFault::BadHead),
@@ -324,6 +388,18 @@ const FAULTS_OF_ANSWERS: [(&[u8], FetchFault); 17] = [
     ),
     (
         b"HTTP/1.0 200 \r\ntransfer-encoding: chunked\r\ncontent-length: 3\r\n\r\none",
+        FetchFault::BadBody,
+    ),
+    (
+        b"HTTP/1.0 200 \r\ntransfer-encoding: , chunked\r\n\r\n3\r\none\r\n0\r\n\r\n",
+        FetchFault::BadBody,
+    ),
+    (
+        b"HTTP/1.1 200 \r\ntransfer-encoding: chunked, chunked\r\n\r\n3\r\none\r\n0\r\n\r\n",
+        FetchFault::BadBody,
+    ),
+    (
+        b"HTTP/1.1 200 \r\ntransfer-encoding: ,\r\ncontent-length: 3\r\n\r\none",
         FetchFault::BadBody,
     ),
 ];
@@ -393,9 +469,17 @@ fn asks_are_read(rt: HostRuntime) {
 }
 
 /// An answer, and its parts.
-const ANSWERS: [(&[u8], Parts<'static>); 10] = [
+const ANSWERS: [(&[u8], Parts<'static>); 12] = [
     (
         b"HTTP/1.1 200 \r\ntransfer-encoding: Chunked\r\n\r\n3\r\none\r\n0\r\n\r\n",
+        (200, &[], None, None, b"one"),
+    ),
+    (
+        b"HTTP/1.1 200 \r\ntransfer-encoding: ,Chunked, ,\r\n\r\n3\r\none\r\n0\r\n\r\n",
+        (200, &[], None, None, b"one"),
+    ),
+    (
+        b"HTTP/1.1 200 \r\ntransfer-encoding:\r\ntransfer-encoding: chunked\r\n\r\n3\r\none\r\n0\r\n\r\n",
         (200, &[], None, None, b"one"),
     ),
     (

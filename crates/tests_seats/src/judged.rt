@@ -6,7 +6,7 @@ use crate::nodes::{Start, asked, call, share, start_of, take, verdict_on};
 use node_book::{NodeEntry, Record};
 use node_copies::{copy_of_event, copy_of_reply};
 use node_rules::{Event, Reply, StepFault};
-use node_seats::{Origin, Retention};
+use node_seats::{NodeRun, Retention};
 use roster::Listed;
 use run_check::{Cause, Verdict};
 use std::alloc::{AllocError, Global};
@@ -29,7 +29,7 @@ const FAILS: Event<()> = Event::FetchFailed { serial: 34, now: 9 };
 /// Puts two records of a new node behind these. In the first record each of two seats makes a call:
 /// one asks, and waits for the origin. The one call of the second record ends that ask. Whether all
 /// that was done.
-fn two_records<J: Origin, R: Wait>(
+fn two_records<J: NodeRun, R: Wait>(
     rt: &R,
     start: Start,
     new: NewHistory<NodeEntry>,

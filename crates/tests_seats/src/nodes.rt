@@ -7,7 +7,7 @@ use http_messages::{Answer, Ask, Body, Fields};
 use node_book::{NodeEntry, Record};
 use node_core::Node;
 use node_rules::{Event, Reply, StepFault};
-use node_seats::{Origin, Places, Retention, Seat, SharedNode};
+use node_seats::{NodeRun, Places, Retention, Seat, SharedNode};
 use roster::Roster;
 use run_check::{Verdict, check_run};
 use std::alloc::Global;
@@ -64,13 +64,13 @@ pub(crate) fn start_of(alloc: Global, text: &str) -> Option<Start> {
 
 /// A node that threads share, and its seats.
 #[derive(Drop)]
-pub(crate) struct Shared<J: Origin> {
+pub(crate) struct Shared<J: NodeRun> {
     pub(crate) node: SharedNode<MemoryFloors, J>,
     pub(crate) seats: Vec<Seat<J>>,
 }
 
 /// Shares a new node by so many seats.
-pub(crate) fn share<J: Origin>(
+pub(crate) fn share<J: NodeRun>(
     alloc: Global,
     start: Start,
     new: NewHistory<NodeEntry>,
@@ -89,7 +89,7 @@ pub(crate) fn share<J: Origin>(
 }
 
 /// Makes a call by the seat of this number.
-pub(crate) fn call<J: Origin, R: Wait>(
+pub(crate) fn call<J: NodeRun, R: Wait>(
     rt: &R,
     shared: &mut Shared<J>,
     number: usize,
@@ -103,7 +103,7 @@ pub(crate) fn call<J: Origin, R: Wait>(
 
 /// Holds a node, and puts its record behind these. Returns how many entries it has; None where none
 /// is kept.
-pub(crate) fn take<J: Origin, R: Wait>(
+pub(crate) fn take<J: NodeRun, R: Wait>(
     rt: &R,
     node: &SharedNode<MemoryFloors, J>,
     kept: &mut Vec<Record>,

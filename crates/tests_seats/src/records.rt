@@ -8,7 +8,7 @@ use floor_rules::MemoryFloors;
 use node_book::{NodeEntry, Record};
 use node_bytes::Stepper;
 use node_rules::Event;
-use node_seats::{AtSeat, Origin, Retention, Seat, SharedNode};
+use node_seats::{AtSeat, NodeRun, Retention, Seat, SharedNode};
 use run_check::Verdict;
 use std::alloc::Global;
 use std::hash::RandomState;
@@ -37,7 +37,7 @@ struct Trial {
     moves: &'static [Move],
 }
 
-const TRIALS: [Trial; 8] = [
+const TRIALS: [Trial; 9] = [
     Trial {
         what: "a page that is full goes over into the next within a call",
         retention: Retention::UpTo(3),
@@ -71,6 +71,16 @@ const TRIALS: [Trial; 8] = [
             Move::Take(Some(128)),
             Move::Heavy(129),
             Move::Take(None),
+        ],
+    },
+    Trial {
+        what: "a record that is taken leaves all pages to the next one",
+        retention: Retention::UpTo(2),
+        moves: &[
+            Move::Heavy(128),
+            Move::Take(Some(128)),
+            Move::Heavy(128),
+            Move::Take(Some(128)),
         ],
     },
     Trial {
@@ -127,7 +137,7 @@ fn is_heavy_unknown<N: Stepper>(node: &mut N, alloc: Global) -> bool {
 }
 
 /// The same of so many steps.
-fn are_heavy_unknown<N: Stepper>(node: &mut N, alloc: Global, count: u32) -> bool {
+pub(crate) fn are_heavy_unknown<N: Stepper>(node: &mut N, alloc: Global, count: u32) -> bool {
     for _ in 0..count {
         if !is_heavy_unknown(node, alloc) {
             return false;
@@ -140,7 +150,7 @@ fn are_heavy_unknown<N: Stepper>(node: &mut N, alloc: Global, count: u32) -> boo
 type Seated<'n, J, R> = AtSeat<'n, MemoryFloors, J, R>;
 
 /// The seats of a node, each to take steps by.
-fn seated<'n, J: Origin, R: Wait>(
+fn seated<'n, J: NodeRun, R: Wait>(
     rt: &'n R,
     alloc: Global,
     node: &'n SharedNode<MemoryFloors, J>,
@@ -154,7 +164,7 @@ fn seated<'n, J: Origin, R: Wait>(
 }
 
 /// Makes a move. Whether it goes as it is to.
-fn is_made<J: Origin, R: Wait>(
+fn is_made<J: NodeRun, R: Wait>(
     rt: &R,
     alloc: Global,
     node: &SharedNode<MemoryFloors, J>,
@@ -176,7 +186,7 @@ fn is_made<J: Origin, R: Wait>(
 }
 
 /// The first move that goes otherwise, if one does.
-fn wrong_move<J: Origin, R: Wait>(
+fn wrong_move<J: NodeRun, R: Wait>(
     rt: &R,
     alloc: Global,
     node: &SharedNode<MemoryFloors, J>,
@@ -194,7 +204,7 @@ fn wrong_move<J: Origin, R: Wait>(
 
 /// The same of a new node; or no answer where there is no memory. All records that are taken are
 /// put behind these.
-fn tried<J: Origin, R: Wait>(
+fn tried<J: NodeRun, R: Wait>(
     rt: &R,
     alloc: Global,
     start: Start,

@@ -3,10 +3,11 @@ ghost use Rattle.std.specs.Prelude.{◌≡◌, Some};
 ghost use Rattle.node_seats.specs.Beginning.{beginning_of};
 
 use crate::nodes::{Shared, Start, Told, asked, share, start_of, take, verdict_on};
+use crate::records::are_heavy_unknown;
 use floor_rules::MemoryFloors;
 use node_book::{NodeEntry, Record};
 use node_rules::{Event, Served, StepFault};
-use node_seats::{Origin, Places, Retention, Seat, SharedNode};
+use node_seats::{AtSeat, NodeRun, Places, Retention, Seat, SharedNode};
 use run_check::Verdict;
 use std::alloc::Global;
 use std::hash::RandomState;
@@ -15,6 +16,7 @@ use std::sync::Wait;
 use std::sync::atomic::{AtomicU64, Ordering};
 use std::test::Fail;
 use std::thread::{self, Threads};
+use std::time::{Clock, Duration};
 use tests_kit::ONE;
 use values_history::NewHistory;
 
@@ -43,7 +45,7 @@ fn is_without_copy(told: &Told) -> bool {
 }
 
 /// Makes a call that fails by the last of these seats. Whether it was told so.
-fn is_failed<J: Origin, R: Wait>(
+fn is_failed<J: NodeRun, R: Wait>(
     rt: &R,
     node: &SharedNode<MemoryFloors, J>,
     seats: &mut Vec<Seat<J>>,
@@ -55,7 +57,7 @@ fn is_failed<J: Origin, R: Wait>(
 }
 
 /// Makes a call by the last of these seats. Whether it was told that there is no copy.
-fn is_asked_in_vain<J: Origin, R: Wait>(
+fn is_asked_in_vain<J: NodeRun, R: Wait>(
     rt: &R,
     node: &SharedNode<MemoryFloors, J>,
     seats: &mut Vec<Seat<J>>,
@@ -69,7 +71,7 @@ fn is_asked_in_vain<J: Origin, R: Wait>(
 
 /// Two threads make a call each: the first asks for a copy, and the second tells of a fetch that
 /// there was not. Whether each was told what it is to be.
-fn called_beside<J: Origin + Send + Sync, R: Threads + Wait + Sync>(
+fn called_beside<J: NodeRun + Send + Sync, R: Threads + Wait + Sync>(
     rt: &R,
     node: &SharedNode<MemoryFloors, J>,
     first: &mut Vec<Seat<J>>,
@@ -84,7 +86,7 @@ fn called_beside<J: Origin + Send + Sync, R: Threads + Wait + Sync>(
 }
 
 /// The same by the two seats of a node.
-fn called_by_two<J: Origin + Send + Sync, R: Threads + Wait + Sync>(
+fn called_by_two<J: NodeRun + Send + Sync, R: Threads + Wait + Sync>(
     rt: &R,
     alloc: Global,
     shared: &mut Shared<J>,
@@ -97,7 +99,7 @@ fn called_by_two<J: Origin + Send + Sync, R: Threads + Wait + Sync>(
 }
 
 /// The same of a new node. Its record is put behind these.
-fn two_calls<J: Origin + Send + Sync, R: Threads + Wait + Sync>(
+fn two_calls<J: NodeRun + Send + Sync, R: Threads + Wait + Sync>(
     rt: &R,
     alloc: Global,
     start: Start,
@@ -146,7 +148,7 @@ fn two_seats_make_a_call_each(rt: HostRuntime) -> Result<(), Fail> {
 
 /// Makes a hundred calls by a seat, with the moments from 0 to 99, and counts those that were told
 /// their fault.
-fn make_hundred<J: Origin, R: Wait>(
+fn make_hundred<J: NodeRun, R: Wait>(
     rt: &R,
     node: &SharedNode<MemoryFloors, J>,
     mut seat: Seat<J>,
@@ -159,35 +161,95 @@ fn make_hundred<J: Origin, R: Wait>(
     }
 }
 
+/// For how many milliseconds a node is held while the threads of its seats come.
+const PAUSE: u64 = 20;
+
 /// Has a thread of its own for each seat make a hundred calls, and counts those that were told
-/// their fault.
-fn make_hundreds<J: Origin + Send + Sync, R: Threads + Wait + Sync>(
+/// their fault. The node is held at first, so that all threads wait for it with their first call.
+fn make_hundreds<J: NodeRun + Send + Sync, R: Threads + Wait + Clock + Sync>(
     rt: &R,
     node: &SharedNode<MemoryFloors, J>,
     seats: Vec<Seat<J>>,
     count: &AtomicU64,
 ) {
     thread::scope(thread::scope_env(), rt, move |scope| {
+        let held = node.hold(rt);
         for seat in seats {
             let _ = scope
                 .spawn(move || make_hundred(rt, node, seat, count))
                 .is_ok();
         }
+        thread::sleep(rt, Duration::from_millis(PAUSE));
+        drop(held);
     });
 }
 
-/// The same by the eight seats of a new node. Its record is put behind these.
-fn eight_hundred_calls<J: Origin + Send + Sync, R: Threads + Wait + Sync>(
+/// What is done with a new node before the threads of eight seats call it, what becomes of its
+/// record, and how many entries the record has then, if it is kept.
+#[derive(Clone, Copy)]
+struct Crowd {
+    what: &'static str,
+    /// A ninth seat makes so many calls, each with an answer of 65,536 octets: 64 fill a page.
+    heavy: u32,
+    retention: Retention,
+    entries: Option<usize>,
+}
+
+const CROWDS: [Crowd; 3] = [
+    Crowd {
+        what: "a page has room for all",
+        heavy: 0,
+        retention: Retention::UpTo(1),
+        entries: Some(800),
+    },
+    Crowd {
+        what: "all of them find the page full, and it ends once",
+        heavy: 64,
+        retention: Retention::UpTo(2),
+        entries: Some(864),
+    },
+    Crowd {
+        what: "all of them find the page full, and one page more is not kept",
+        heavy: 64,
+        retention: Retention::UpTo(1),
+        entries: None,
+    },
+];
+
+/// The ninth seat of a node makes the heavy calls. Whether each was told its fault.
+fn is_weighed<J: NodeRun, R: Wait>(
+    rt: &R,
+    alloc: Global,
+    shared: &mut Shared<J>,
+    crowd: &Crowd,
+) -> bool {
+    match shared.seats.pop() {
+        Some(seat) => {
+            let node = &shared.node;
+            are_heavy_unknown(&mut AtSeat { rt, node, seat }, alloc, crowd.heavy)
+        }
+        None => false,
+    }
+}
+
+/// How many of the eight hundred calls at a new node were told their fault. The record is put
+/// behind these.
+fn eight_hundred_calls<J: NodeRun + Send + Sync, R: Threads + Wait + Clock + Sync>(
     rt: &R,
     alloc: Global,
     start: Start,
     new: NewHistory<NodeEntry>,
+    crowd: &Crowd,
     kept: &mut Vec<Record>,
 ) -> Option<u64>
     requires book { new.seen.book ≡ J.book }
     requires beginning { J.beginning ≡ Some (beginning_of start.node) }
 {
-    let Shared { node, seats } = share::<J>(alloc, start, new, Retention::UpTo(1), 8)?;
+    let mut shared = share::<J>(alloc, start, new, crowd.retention, 9)?;
+    if !is_weighed(rt, alloc, &mut shared, crowd) {
+        return None;
+    }
+    let Shared { node, seats } = shared;
     let count = AtomicU64::new(0);
     make_hundreds(rt, &node, seats, &count);
     take(rt, &node, kept);
@@ -216,44 +278,54 @@ fn is_in_order(entries: &[NodeEntry], seat: u8) -> bool {
     next == EACH
 }
 
-/// How many entries the first record has, and how many of eight seats have their hundred in order.
-fn hundreds_of(records: &[Record]) -> Option<(usize, usize)> {
+/// How many entries the first record has, if eight seats have their hundred in order.
+fn entries_in_order(records: &[Record]) -> Option<usize> {
     let entries = records.first()?.entries.as_slice();
-    let mut seats = 0usize;
     for seat in 0..8 {
-        if is_in_order(entries, seat) {
-            seats = seats.saturating_add(1);
+        if !is_in_order(entries, seat) {
+            return None;
         }
     }
-    Some((entries.len(), seats))
+    Some(entries.len())
 }
 
-/// How many of the calls of eight threads were told their fault; how many entries there are, and
-/// how many seats have theirs in order; and the verdict on the record.
-type Hundreds = (u64, (usize, usize), Verdict);
-
-/// What is seen of the calls of eight threads.
-fn seen_of_eight<R: Threads + Wait + Sync>(
+/// Whether all eight hundred calls of the seats of a new node are told their fault, the record has
+/// the entries that it is to have, and it is judged to be a run.
+fn is_right<R: Threads + Wait + Clock + Sync>(
     rt: &R,
     alloc: Global,
     keys: RandomState,
-) -> Option<Hundreds> {
-    let start = start_of(alloc, ONE)?;
+    crowd: &Crowd,
+) -> bool {
+    let Some(start) = start_of(alloc, ONE) else {
+        return false;
+    };
     let mut kept = Vec::new(alloc);
-    let told = eight_hundred_calls::<Brand, R>(rt, alloc, start, NewHistory::new(), &mut kept)?;
-    let hundreds = hundreds_of(kept.as_slice())?;
-    Some((
-        told,
-        hundreds,
-        verdict_on(alloc, keys, ONE, kept.as_slice())?,
-    ))
+    let new = NewHistory::new();
+    let told = eight_hundred_calls::<Brand, R>(rt, alloc, start, new, crowd, &mut kept);
+    let entries = entries_in_order(kept.as_slice());
+    let verdict = verdict_on(alloc, keys, ONE, kept.as_slice());
+    told == Some(800) && entries == crowd.entries && verdict == Some(Verdict::Yes)
+}
+
+/// The first crowd of which something else is seen, if there is one.
+fn wrong_crowd<R: Threads + Wait + Clock + Sync>(
+    rt: &R,
+    alloc: Global,
+    keys: RandomState,
+) -> Option<&'static str> {
+    for crowd in &CROWDS {
+        if !is_right(rt, alloc, keys, crowd) {
+            return Some(crowd.what);
+        }
+    }
+    None
 }
 
 #[test]
 fn eight_seats_make_a_hundred_calls_each(rt: HostRuntime) -> Result<(), Fail> {
     let keys = RandomState::new(&rt)?;
-    let seen = seen_of_eight(&rt, rt.alloc(), keys);
-    assert!(rt; seen == Some((800, (800, 8), Verdict::Yes)));
+    assert_eq!(rt; wrong_crowd(&rt, rt.alloc(), keys), None);
     Ok(())
 }
 

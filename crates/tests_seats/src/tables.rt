@@ -175,7 +175,7 @@ fn due_of<R: Wait>(rt: &R, tables: &WaitTables<u64, u8>) -> Option<(u32, u32)> {
 
 /// The same by a table that threads share.
 fn shared<R: Wait>(rt: &R, alloc: Global) -> Option<(u32, u32)> {
-    let tables: WaitTables<u64, u8> = WaitTables::new(alloc);
+    let tables: WaitTables<u64, u8> = WaitTables::new(alloc).ok()?;
     due_of(rt, &tables)
 }
 

@@ -147,6 +147,8 @@ enum Seen {
     Timer(u32),
     /// The fetch with this serial has ended.
     Fetched(u32),
+    /// The step of the fetch with this serial, which has failed, is to be taken again.
+    Failed(u32),
 }
 
 impl Seen {
@@ -161,6 +163,7 @@ impl Seen {
             Job::Stream { number, octets, .. } => Seen::Stream(*number, octets.len()),
             Job::Timer { serial } => Seen::Timer(*serial),
             Job::Fetched(fetched) => Seen::Fetched(fetched.serial),
+            Job::Failed { serial } => Seen::Failed(*serial),
         }
     }
 }

@@ -15,11 +15,21 @@ pub(crate) struct FailingFloors {
 
 impl FailingFloors {
     pub(crate) fn new(alloc: Global, raises: u32) -> FailingFloors {
+        FailingFloors::over(Floors::new(alloc), raises)
+    }
+
+    /// The same that begins with these floors.
+    pub(crate) fn over(floors: Floors, raises: u32) -> FailingFloors {
         FailingFloors {
-            floors: Floors::new(alloc),
+            floors,
             raises_left: raises,
             failures: 0,
         }
+    }
+
+    /// How many rows the store has, and the base.
+    pub(crate) fn rows_and_base(&self) -> (usize, u32) {
+        (self.floors.rows(), self.floors.base())
     }
 }
 

@@ -1,13 +1,14 @@
 //! A node over a store of floors that fails.
 use crate::failing::FailingFloors;
 use crate::setting::{Cleared, TWO, cleared_by, purge};
-use floor_rules::FloorStore;
+use floor_rules::{FloorStore, Floors};
 use node_core::Node;
 use node_rules::{Begin, Event, Reply, StepFault};
 use roster::Roster;
 use std::alloc::Global;
+use std::fmt::Write;
 use std::test::Fail;
-use tests_kit::{ask_of, roster_of};
+use tests_kit::{ask_of, key_of, roster_of};
 
 /// A node that is let go as a whole.
 #[derive(Drop)]
@@ -125,5 +126,29 @@ fn a_later_fault_of_the_store_keeps_what_was_answered(rt: HostRuntime) -> Result
     assert!(rt; is_cleared(alloc, &mut held.node, 1)?);
     assert!(rt; is_cleared(alloc, &mut held.node, 2)?);
     assert!(rt; is_closed_by_fault(alloc, &mut held.node, 3)?);
+    Ok(())
+}
+
+/// Floors of as many keys as a table has rows at most.
+fn full(alloc: Global) -> Result<Floors, Fail> {
+    let mut floors = Floors::new(alloc);
+    for number in 1..=65_536u32 {
+        let url = format!(in alloc; "http://o/{number}")?;
+        floors.raise(alloc, &key_of(alloc, url.as_bytes())?, number)?;
+    }
+    Ok(floors)
+}
+
+fn rows_and_base_of(held: Held<FailingFloors>) -> (usize, u32) {
+    held.node.into_floors().rows_and_base()
+}
+
+#[test]
+fn a_store_that_fails_as_the_base_is_made_closes_the_node(rt: HostRuntime) -> Result<(), Fail> {
+    let alloc = rt.alloc();
+    let mut held = opened(alloc, FailingFloors::over(full(alloc)?, 0))?;
+    assert!(rt; is_closed_by_fault(alloc, &mut held.node, 70_000)?);
+    assert!(rt; is_refused(&mut held.node, client(alloc, "http://o/a")?));
+    assert_eq!(rt; rows_and_base_of(held), (65_536, 0));
     Ok(())
 }

@@ -69,6 +69,27 @@ impl Key {
         }
     }
 
+    /// The key of a text that is one already: `http://`, a host in lower case without a port, and a
+    /// path with or without a query. The text stays where it is in memory. Any other text comes
+    /// back, also one that has a key.
+    pub fn from_plain(text: Vec<u8>) -> Result<Key, Vec<u8>>
+        ensures ok { IfOk result (λ key. (key ≡ text.items) × HasKey text.items (Ok key)) }
+        ensures err { IfErr result (λ back. back ≡ text) }
+    {
+        if is_plain_key(text.as_slice()) {
+            Ok(Key { text })
+        } else {
+            Err(text)
+        }
+    }
+
+    /// The text of the key, which stays where it is in memory.
+    pub fn into_text(self) -> Vec<u8>
+        ensures { result.items ≡ self }
+    {
+        self.text
+    }
+
     /// The text of the key. It reads as this key.
     pub fn text(&self) -> &[u8]
         ensures value { result.now ≡ self.now }

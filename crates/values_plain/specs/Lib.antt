@@ -4,3 +4,4 @@ pub mod Counted
 pub mod Laws
 pub mod Writing
 pub mod Sockets
+pub mod Listed

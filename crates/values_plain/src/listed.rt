@@ -1,21 +1,31 @@
-ghost use Rattle.std.specs.Prelude.{◌≡◌};
+ghost use Rattle.std.specs.Prelude.{◌≡◌, ◌∷◌, []};
 
 use std::marker::Model;
 
-/// Items in order. They do not change.
+/// Items in order. They do not change. One alone takes no memory beside its own.
 ///
 /// A contract sees them as a list.
 #[derive(Debug, Drop)]
 pub struct Listed<T> {
-    items: Vec<T>,
+    items: Items<T>,
+}
+
+/// One item, or any number of them.
+#[derive(Debug, Drop)]
+pub(crate) enum Items<T> {
+    /// One alone.
+    One([T; 1]),
+    /// Any number.
+    Any(Vec<T>),
 }
 
 impl<T> Model for Listed<T> {
     ghost use Rattle.std.specs.Prelude.{List};
+    ghost use Rattle.values_plain.specs.Listed.{items_in};
 
     ghost Value = { List T };
 
-    ghost view = { λ l. l.items.items };
+    ghost view = { λ l. items_in l.items };
 }
 
 impl<T> Listed<T> {
@@ -23,13 +33,27 @@ impl<T> Listed<T> {
     pub fn new(items: Vec<T>) -> Listed<T>
         ensures { result ≡ items.items }
     {
-        Listed { items }
+        Listed {
+            items: Items::Any(items),
+        }
+    }
+
+    /// The list of one item. Allocates nothing.
+    pub fn one(item: T) -> Listed<T>
+        ensures { result ≡ item ∷ [] }
+    {
+        Listed {
+            items: Items::One([item]),
+        }
     }
 
     /// The items, in order.
     pub fn as_slice(&self) -> &[T]
         ensures { result.now ≡ self.now }
     {
-        self.items.as_slice()
+        match &self.items {
+            Items::One(item) => item.as_slice(),
+            Items::Any(items) => items.as_slice(),
+        }
     }
 }

@@ -48,6 +48,13 @@ impl Octets {
         Octets { octets }
     }
 
+    /// The octets as a vector. They stay where they are in memory.
+    pub fn into_vec(self) -> Vec<u8>
+        ensures { result.items ≡ self }
+    {
+        self.octets
+    }
+
     /// The octets as a slice.
     pub fn as_slice(&self) -> &[u8]
         ensures value { result.now ≡ self.now }

@@ -8,5 +8,5 @@ ghosts-run_named-Q-Run g a = record { book = a.steps.seen.book }
 abbrev pub ghosts-run_named-J-Run : goal.ghosts-run_named-J-Run
 ghosts-run_named-J-Run g a = record { book = a.history.seen.book }
 
-abbrev pub ghosts-run_named-J-Origin : goal.ghosts-run_named-J-Origin
-ghosts-run_named-J-Origin g a = record { beginning = Some (beginning_of a.start.node) }
+abbrev pub ghosts-run_named-J-NodeRun : goal.ghosts-run_named-J-NodeRun
+ghosts-run_named-J-NodeRun g a = record { beginning = Some (beginning_of a.start.node) }

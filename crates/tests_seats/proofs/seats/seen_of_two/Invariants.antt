@@ -5,5 +5,5 @@ use Rattle.tests_seats.proofs.seats.seen_of_two.Given as goal
 abbrev pub ghosts-two_calls-J-Run : goal.ghosts-two_calls-J-Run
 ghosts-two_calls-J-Run g a = record { book = a.new.seen.book }
 
-abbrev pub ghosts-two_calls-J-Origin : goal.ghosts-two_calls-J-Origin
-ghosts-two_calls-J-Origin g a = record { beginning = Some (beginning_of a.start.node) }
+abbrev pub ghosts-two_calls-J-NodeRun : goal.ghosts-two_calls-J-NodeRun
+ghosts-two_calls-J-NodeRun g a = record { beginning = Some (beginning_of a.start.node) }

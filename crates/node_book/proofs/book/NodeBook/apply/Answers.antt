@@ -16,4 +16,4 @@ invariant_of-self g c =
 pub returns-in-Ok-clause-applied : goal.returns-in-Ok-clause-applied
 returns-in-Ok-clause-applied g c few =
     inr (is_applied c.stepped-entry.result.0 (search rules) c.stepped-entry.ensures.entry (search rules) (search rules)
-    c.stepped-entry.ensures.told (search rules))
+    c.stepped-entry.ensures.told (search rules) c.stepped-entry.ensures.asks)

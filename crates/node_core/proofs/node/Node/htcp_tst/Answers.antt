@@ -16,10 +16,10 @@ pub returns-then-not-answers_to : goal.returns-then-not-answers_to
 returns-then-not-answers_to g c = λ key_of gives.
     let v = c.args.self.now in
     refuses_tst (setting_of v key_of) v.state c.args.from c.args.trans c.args.desired c.args.spec.now c.args.now c.if-not-desired.false
-    c.if-not-answers_to.ensures _ _ c.overall_answer.ensures c.in_ok-sends.ensures
+    c.if-not-answers_to.ensures _ _ c.overall_answer.ensures c.sends.ensures
 
 pub returns : goal.returns
 returns g c = λ key_of gives.
     let v = c.args.self.now in
     answers_tst (setting_of v key_of) v.state c.args.from c.args.trans c.args.desired c.args.spec.now c.args.now c.if-not-desired.false
-    c.if-not-answers_to.ensures _ _ _ (c.in_ok-stamp.ensures key_of gives) c.in_ok-tst_answer.ensures c.in_ok-sends-2.ensures
+    c.if-not-answers_to.ensures _ _ _ (c.in_ok-stamp.ensures key_of gives) c.in_ok-tst_answer.ensures c.sends-2.ensures

@@ -1,8 +1,12 @@
 -- An admission. Where the store refused the raise of the base, the next block was not touched, and of the
 -- copies only those below the number are gone. The base in memory was raised, so the node that closes has
 -- the raise in its floors; a crash leaves the store with the floors before the raise or after it.
-use Rattle.std.proofs.Common.{inr, ap, cond, [], ◌∷◌, refl, subst, sym, ◌∙◌}
+use Rattle.std.proofs.Common.{◌≡◌, inr, ap, refl, subst, sym, ◌∙◌}
 use Rattle.object_store.specs.Held.{Held}
+use Rattle.node_rules.specs.declared.message.Outgoing.{Outgoing}
+use Rattle.node_rules.specs.declared.state.NodeState.{NodeState}
+use Rattle.node_rules.specs.State.{replies}
+use Rattle.node_rules.specs.Datagrams.{if_desired}
 use Rattle.node_rules.specs.declared.raising.Raise.TheVariants.{Base}
 use Rattle.node_core.specs.View.{NodeText}
 use Rattle.node_core.proofs.Outcomes.{base_found_either, caused, closes, IsStoreFault}
@@ -34,7 +38,6 @@ returns-in-Err-clause-cause g c = λ is_fault honest.
 pub returns-in-Ok-clause-leads : goal.returns-in-Ok-clause-leads
 returns-in-Ok-clause-leads g c = rw (← c.self.view_is)
     (rebase_is _ c.args.from c.args.trans c.args.desired c.args.number c.raise_base.new.self c.clear_all_below.new.self.copies c.in_ok-gone.gone
-    _ _ _ _ c.raise_base.ensures (ap (λ (held : Held _). held.copies) c.in_ok-gone.ensures.ok) c.in_ok-gone.ensures.count
-    (c.in_ok-dropped.ensures ∙ ap (λ m. cond c.args.desired (m ∷ []) []) c.clr_answer.ensures)
-    (c.in_ok-kept.ensures ∙ ap (λ m. cond c.args.desired (m ∷ []) []) c.clr_answer-2.ensures)
-    c.told.ensures c.sends_all.ensures)
+    c.sends_if.result c.raise_base.ensures (ap (λ (held : Held _). held.copies) c.in_ok-gone.ensures.ok) c.in_ok-gone.ensures.count
+    (subst (λ (m : Outgoing). (t : NodeState _) → if_desired t c.args.desired m.to m.message ≡ replies t c.sends_if.result)
+    c.clr_answer.ensures c.sends_if.ensures))

@@ -3,5 +3,5 @@ use Rattle.node_seats.proofs.desk.Desk.take_record.Goals as goal
 
 pub invariant_of-self-2 : goal.invariant_of-self-2
 invariant_of-self-2 g c =
-    stands_ended g.J.Origin.beginning c.self-2.inside.whole c.self-2.inside.steps c.end_record.new.steps c.in_ok-taken.taken c.self-2.invariant
+    stands_ended g.J.NodeRun.beginning c.self.inside.whole c.self.inside.steps c.end_record.new.steps c.in_ok-taken.taken c.self.invariant
     c.in_ok-taken.ensures.ended

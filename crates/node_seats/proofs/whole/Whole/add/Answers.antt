@@ -58,5 +58,5 @@ invariant_of-seat g c =
     omega (arith, calls, as_many log seat c.requires.next, own_more seat.number log e c.requires.own) in (
       subst (λ (l : List NodeEntry). c.seat.inside.calls + 1 ≡ length (entries_of c.seat.inside.number l)) (sym last)
           (subst (λ n. c.seat.inside.calls + 1 ≡ length (entries_of n (log ++ e ∷ []))) (sym number) count),
-      subst (λ (l : List NodeEntry). IsHistory g.J.Origin.beginning l) (sym last) c.requires.history,
+      subst (λ (l : List NodeEntry). IsHistory g.J.NodeRun.beginning l) (sym last) c.requires.history,
     )

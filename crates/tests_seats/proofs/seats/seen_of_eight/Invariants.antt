@@ -1,9 +1,0 @@
-use Rattle.std.proofs.Common.{Some}
-use Rattle.node_seats.specs.Beginning.{beginning_of}
-use Rattle.tests_seats.proofs.seats.seen_of_eight.Given as goal
-
-abbrev pub ghosts-eight_hundred_calls-J-Run : goal.ghosts-eight_hundred_calls-J-Run
-ghosts-eight_hundred_calls-J-Run g a = record { book = a.new.seen.book }
-
-abbrev pub ghosts-eight_hundred_calls-J-Origin : goal.ghosts-eight_hundred_calls-J-Origin
-ghosts-eight_hundred_calls-J-Origin g a = record { beginning = Some (beginning_of a.start.node) }
