@@ -10,6 +10,7 @@ import tempfile
 import threading
 import time
 from collections import Counter
+from collections.abc import Callable
 from concurrent.futures import ThreadPoolExecutor
 from random import Random
 
@@ -29,7 +30,6 @@ from model.roster import Cache, Peer, Roster
 from model.store import Answer, Copy
 from peers import CACHE, LOADER, ORIGIN, PEER, PROGRAM, ROSTER, begin, ports, query, wait_for
 
-HOST, STRANGER = "127.0.0.1", "127.0.0.7"
 LIMITS = "fetch_wait = 1000\nask_wait = 4000\nanswer_wait = 2000\n"
 # Pages that the member holds as datagrams come.
 HELD = [b"http://o/a", b"http://o/b", b"http://o/", b"http://o/?", b"http://o/%41", b"http://o/A", b"http://p:8080/x?y"]
@@ -46,28 +46,31 @@ WHOLE = [b"HTTP/1.1 100 Continue\r\n\r\nHTTP/1.1 200 OK\r\ncache-control: max-ag
 class Running:
     """The cluster, and what it is asked and told by."""
 
-    def __init__(self, trial: Trial, kind: str) -> None:
-        self.trial, self.kind, self.sent, self.before = trial, kind, {}, 0
+    def __init__(self, trial: Trial, nodes: str = "", words: tuple[str, ...] = (), history: int = 0) -> None:
+        """`nodes` are further members, and `words` a command that begins the program."""
+        self.trial, self.sent, self.before = trial, {}, 0
+        self.host, self.loader, self.stranger = (trial.address(number) for number in (1, 9, 7))
         self.folder = tempfile.mkdtemp(dir=trial.folder)
         os.makedirs(f"{self.folder}/data")
-        master, self.http, self.icp, self.htcp, peer_http, self.peer_icp, self.peer_htcp, origin = ports(8)
-        node = CACHE.format(kind="node", id=1, name="n1", address=HOST, http=self.http, icp=self.icp, htcp=self.htcp) + PEER.format(id=101)
-        peer = CACHE.format(kind="foreign", id=101, name="f1", address=LOADER, http=peer_http, icp=self.peer_icp, htcp=self.peer_htcp)
+        self.master, self.http, self.icp, self.htcp, peer_http, self.peer_icp, self.peer_htcp, origin = ports(8)
+        node = CACHE.format(kind="node", id=1, name="n1", address=self.host, http=self.http, icp=self.icp, htcp=self.htcp) + PEER.format(id=101)
+        peer = CACHE.format(kind="foreign", id=101, name="f1", address=self.loader, http=peer_http, icp=self.peer_icp, htcp=self.peer_htcp)
         with open(f"{self.folder}/roster.toml", "w") as file:
-            file.write(LIMITS + ROSTER.format(master=master, nodes=node, foreign=peer, origin=origin))
-            file.write(ORIGIN.format(host="p", origin=origin).replace("port = 80\n", "port = 8080\n"))
-        self.serve(HOST, origin, "origin")
-        self.serve(LOADER, peer_http, "sibling")
+            text = LIMITS + ROSTER.format(master=self.master, nodes=node + nodes, foreign=peer, origin=origin)
+            text += ORIGIN.format(host="p", origin=origin).replace("port = 80\n", "port = 8080\n")
+            file.write(text.replace('"127.0.0.1"', f'"{self.host}"'))
+        self.serve(self.host, origin, "origin")
+        self.serve(self.loader, peer_http, "sibling")
         self.udp = {place: socket.socket(socket.AF_INET, socket.SOCK_DGRAM) for place in ("icp", "htcp", "stranger")}
-        for place, at in (("icp", (LOADER, self.peer_icp)), ("htcp", (LOADER, self.peer_htcp)), ("stranger", (STRANGER, 0))):
+        for place, at in (("icp", (self.loader, self.peer_icp)), ("htcp", (self.loader, self.peer_htcp)), ("stranger", (self.stranger, 0))):
             self.udp[place].bind(at)
-        if kind == "responses of a sibling":
+        if trial.kind == "responses of a sibling":
             threading.Thread(target=self.answer_queries, daemon=True).start()
-        words = [PROGRAM, "cluster", f"{self.folder}/roster.toml", "--data", f"{self.folder}/data", "--history", "0"]
-        self.run = begin(words, stdin=subprocess.PIPE, stdout=subprocess.PIPE, bufsize=0)
+        command = [*words, PROGRAM, "cluster", f"{self.folder}/roster.toml", "--data", f"{self.folder}/data", "--history", str(history)]
+        self.run = begin(command, stdin=subprocess.PIPE, stdout=subprocess.PIPE, bufsize=0)
         if not self.line_comes(b"status 1\n"):
             raise OSError(f"the cluster did not start: status {self.run.poll()}")
-        wait_for(HOST, self.http)
+        wait_for(self.host, self.http)
         self.said = b""
 
     def line_comes(self, line: bytes) -> bool:
@@ -122,7 +125,7 @@ class Running:
         """What comes for octets up to its end; nothing where it does not end."""
         answer, end = b"", time.monotonic() + HANG * self.trial.waits
         try:
-            with socket.create_connection((HOST, self.http), HANG) as stream:
+            with socket.create_connection((self.host, self.http), HANG * self.trial.waits) as stream:
                 stream.settimeout(HANG * self.trial.waits)
                 with contextlib.suppress(ConnectionError):
                     stream.sendall(octets)
@@ -144,30 +147,39 @@ class Running:
 
     def lives(self, index: int, batch: list[bytes]) -> bool:
         """Whether the process runs and serves a page in time, after these inputs; else that is a find."""
-        start = time.monotonic()
+        start, late = time.monotonic(), self.late()
         answer = self.get(b"http://o/warm") if self.run.poll() is None else b""
-        took = time.monotonic() - start
-        figures = self.trial.figures.get(self.kind)
-        if figures and self.run.poll() is None:
+        took = time.monotonic() - start - max(0, self.late() - late)
+        figures = self.trial.figures
+        if self.run.poll() is None:
             size = resident(self.run.pid)
             self.before = self.before or size * (figures.inputs > 300)
             figures.grown = size - (self.before or size)
         if self.run.poll() is not None:
-            self.trial.find("crash", self.kind, index, b"\n=====\n".join(batch), f"status {self.run.returncode}")
+            self.trial.find("crash", index, b"\n=====\n".join(batch), f"status {self.run.returncode}")
         elif not answer or b"page /warm" not in answer or took > PAGE * self.trial.waits:
-            self.trial.find("hang", self.kind, index, b"\n=====\n".join(batch), f"a page took {took:.1f} s: {answer!r}")
+            self.trial.find("hang", index, b"\n=====\n".join(batch), f"a page took {took:.1f} s: {answer!r}")
         else:
             return True
         if self.run.poll() is not None:
-            raise SystemExit(f"the cluster has ended: {self.kind} {index}")
+            raise EOFError("the cluster has ended")
         return False
+
+    def late(self) -> float:
+        """How many seconds the threads of the cluster and this one have waited for a processor so far: a page that is late for that alone is no hang."""
+        waited = 0
+        for process in (self.run.pid, os.getpid()):
+            for thread in tasks(process):
+                with contextlib.suppress(OSError, IndexError), open(f"/proc/{process}/task/{thread}/schedstat") as file:
+                    waited += int(file.read().split()[1])
+        return waited / 1e9
 
     # Requests, and responses.
 
     def judged(self, index: int, octets: bytes, answer: bytes | None) -> tuple[int, bytes]:
         """The status and the body of a client's response, 0 where there is none. What is no whole response is a find."""
         if answer is None:
-            self.trial.find("hang", self.kind, index, octets, "a client's connection does not end")
+            self.trial.find("hang", index, octets, "a client's connection does not end")
             return 0, b""
         if not answer:
             return 0, b""
@@ -176,12 +188,12 @@ class Running:
         lengths = re.findall(rb"\r\ncontent-length: (\d+)(?=\r\n|$)", head)
         has_none = match and int(match[1]) in (204, 304)
         if not match or (lengths != [b"%d" % len(body)] and not has_none) or (has_none and body) or b"\r\nconnection: close" not in head:
-            self.trial.find("wrong answer", self.kind, index, octets, answer[:400])
+            self.trial.find("wrong answer", index, octets, answer[:400])
             return 0, b""
         return int(match[1]), body
 
     def requests(self, index: int) -> None:
-        random = self.trial.random(self.kind, index)
+        random = self.trial.random(index)
         if index == 0:
             whole = b"GET http://o/q1 HTTP/1.1\r\nHost: o\r\ncache-control: only-if-cached\r\nx-purge-member: 1\r\n\r\n"
             batch = [whole[:length] for length in range(len(whole) + 1)]
@@ -193,12 +205,12 @@ class Running:
             status, body = self.judged(index, octets, answer)
             page = body.removeprefix(b"page ")
             if status and (status not in (*OWN, 200) or (status == 200 and page not in octets and page[:1] + page[1:2].strip(b"?") != b"/")):
-                self.trial.find("wrong answer", self.kind, index, octets, answer[:300])
-            self.trial.tried(self.kind, len(octets), str(status or "no response"))
+                self.trial.find("wrong answer", index, octets, answer[:300])
+            self.trial.tried(len(octets), str(status or "no response"))
         self.lives(index, batch)
 
     def responses(self, source: str, index: int) -> None:
-        random = self.trial.random(self.kind, index)
+        random = self.trial.random(index)
         if index < len(WHOLE):
             batch = [WHOLE[index][:length] for length in range(len(WHOLE[index]) + 1)]
             paths = [b"/%d/%d" % (index, at) for at in range(len(batch))]
@@ -223,18 +235,18 @@ class Running:
         is_chunked = b"chunked" in octets.lower()
         is_sent = b"%d" % status in octets and (body in octets or (is_chunked and is_among(body, octets)))
         if not status or not (of_origin or is_sent or (status in (502, 504) and not body)):
-            self.trial.find("wrong answer", self.kind, index, octets, (answer or b"")[:300])
+            self.trial.find("wrong answer", index, octets, (answer or b"")[:300])
         name = "the origin's page" if of_origin else str(status)
         if time_of == 0:
-            self.trial.tried(self.kind, len(octets), name)
+            self.trial.tried(len(octets), name)
 
     # Datagrams.
 
     def model(self) -> Node:
         """The model of the member, which holds nothing yet."""
-        me = Cache(1, "n1", (HOST, self.http), (HOST, self.icp), (HOST, self.htcp), (Peer(101, "sibling", "icp"),))
-        peer = Cache(101, "f1", (LOADER, 0), (LOADER, self.peer_icp), (LOADER, self.peer_htcp))
-        return Node(Roster(AGE, 2000, 1 << 24, (HOST, 1), {1: me}, {101: peer}), 1)
+        me = Cache(1, "n1", (self.host, self.http), (self.host, self.icp), (self.host, self.htcp), (Peer(101, "sibling", "icp"),))
+        peer = Cache(101, "f1", (self.loader, 0), (self.loader, self.peer_icp), (self.loader, self.peer_htcp))
+        return Node(Roster(AGE, 2000, 1 << 24, (self.host, 1), {1: me}, {101: peer}), 1)
 
     def warm(self, node: Node) -> None:
         """Has the member read what it should hold, and holds the same."""
@@ -244,7 +256,7 @@ class Running:
                 node.store.put(Copy(url, 0, 0, AGE, Answer(200)))
 
     def datagrams(self, protocol: str, node: Node, index: int) -> None:
-        random = self.trial.random(self.kind, index)
+        random = self.trial.random(index)
         place = random.choice([protocol, protocol, "stranger"])
         self.warm(node)
         batch: list[bytes] = []
@@ -265,7 +277,7 @@ class Running:
     def compare(self, protocol: str, place: str, node: Node, index: int, batch: list[bytes]) -> None:
         """Sends datagrams together, and compares what comes with what the model says."""
         at, held = self.udp[place], set(node.store.copies)
-        sender, target = at.getsockname(), (HOST, self.icp if protocol == "icp" else self.htcp)
+        sender, target = at.getsockname(), (self.host, self.icp if protocol == "icp" else self.htcp)
         wanted: Counter[bytes] = Counter()
         for octets in batch:
             try:
@@ -274,13 +286,13 @@ class Running:
             except Fault as fault:
                 sent, name = [], fault.name
             wanted.update(sent)
-            self.trial.tried(self.kind, len(octets), name)
+            self.trial.tried(len(octets), name)
         for octets in batch:
             at.sendto(octets, target)
         came = self.came(at, wanted, sum(wanted.values()))
         if came != wanted:
             told = f"came {[it.hex()[:80] for it in came - wanted]}, wanted {[it.hex()[:80] for it in wanted - came]}"
-            self.trial.find("wrong answer", self.kind, index, b"\n=====\n".join(batch), told)
+            self.trial.find("wrong answer", index, b"\n=====\n".join(batch), told)
         for url in held - set(node.store.copies):
             self.until_gone(url)
 
@@ -298,7 +310,7 @@ class Running:
         """Waits until the member has dropped a copy, which it was told to without an answer."""
         end = time.monotonic() + 3 * self.trial.waits
         while time.monotonic() < end:
-            self.udp["icp"].sendto(query(url.decode()), (HOST, self.icp))
+            self.udp["icp"].sendto(query(url.decode()), (self.host, self.icp))
             while select.select([self.udp["icp"]], [], [], 0.2)[0]:
                 octets = self.udp["icp"].recv(65536)
                 if octets[:1] == b"\x03":
@@ -309,21 +321,25 @@ class Running:
     # The console.
 
     def console(self, index: int, state: dict[str, int]) -> None:
-        random = self.trial.random(self.kind, index)
+        if "refuses" not in state:
+            # (an older program does not know this line)
+            self.run.stdin.write(b"refused\n")
+            state["refuses"] = self.read_line() == b"refused 1" and self.read_line() is not None
+        random = self.trial.random(index)
         batch = [console_line(random, state["last"]) for _ in range(BATCH)]
         for line in batch:
             wanted = self.console_answer(line, state)
             self.run.stdin.write(line + b"\n")
             answer = self.read_line()
             if answer is None:
-                self.trial.find("hang", self.kind, index, line, "no answer")
-                raise SystemExit(f"the console does not answer: {index}")
+                self.trial.find("hang", index, line, "no answer")
+                raise EOFError("the console does not answer")
             if not re.fullmatch(wanted, answer):
-                self.trial.find("wrong answer", self.kind, index, line, f"{answer!r} and not {wanted!r}")
-            more = re.fullmatch(rb"(purges|members|peers) (\d+)", answer)
+                self.trial.find("wrong answer", index, line, f"{answer!r} and not {wanted!r}")
+            more = re.fullmatch(rb"(purges|members|peers|refused) (\d+)", answer)
             for _ in range(int(more[2]) if more else 0):
                 self.read_line()
-            self.trial.tried(self.kind, len(line), number_free(answer)[:24])
+            self.trial.tried(len(line), number_free(answer)[:24])
         self.lives(index, batch)
 
     def read_line(self) -> bytes | None:
@@ -358,6 +374,8 @@ class Running:
                     return b"members 1"
                 case [b"peers"]:
                     return rb"peers \d+"
+                case [b"refused"] if state["refuses"]:
+                    return b"refused 1"
             return b"bad line"
         try:
             url = split_words(line)[-1]
@@ -388,24 +406,42 @@ def is_clear(protocol: str, octets: bytes) -> bool:
 def console_line(random: Random, last: int) -> bytes:
     while True:
         url = made_url(random).replace(b"\n", b"\v")
-        line = random.choice([b"purge " + url, b"purge " + url, b"status %d" % random.randrange(last + 3), b"get 1 " + url, b"pending", b"members", b"peers", b"check"])
+        line = random.choice([b"purge " + url, b"purge " + url, b"status %d" % random.randrange(last + 3), b"get 1 " + url, b"pending", b"members", b"peers", b"refused", b"check"])
         if random.random() < 0.4:
             line = mutated(random, line, WORDS).replace(b"\n", b"")
         if line.strip() != b"quit":
             return line
 
 
-def started(trial: Trial, kind: str) -> Running:
+def tasks(process: int) -> list[str]:
+    with contextlib.suppress(OSError):
+        return os.listdir(f"/proc/{process}/task")
+    return []
+
+
+def started(begin_one: Callable[[], Running]) -> Running:
     """A cluster. Others may have taken a port that was free: then it is tried again with other ports."""
     for _ in range(3):
         with contextlib.suppress(OSError):
-            return Running(trial, kind)
-    raise SystemExit("the cluster does not start")
+            return begin_one()
+    raise EOFError("the cluster does not start")
+
+
+def stopped(trial: Trial, running: Running) -> None:
+    """Ends a cluster, which has to end well."""
+    running.run.stdin.close()
+    try:
+        status = running.run.wait(30 * trial.waits)
+    except subprocess.TimeoutExpired:
+        status = "it does not end"
+        running.run.kill()
+    if status != 0 and not trial.figures.finds["crash"]:
+        trial.find("crash", trial.at, b"", f"the end: {status}")
 
 
 @contextlib.contextmanager
-def begun(trial: Trial, kind: str):
-    running = started(trial, kind)
+def begun(trial: Trial):
+    running = started(lambda: Running(trial))
     running.get(b"http://o/warm")
     node, state = running.model(), {"last": 0}
     plays = {
@@ -417,18 +453,11 @@ def begun(trial: Trial, kind: str):
         "console lines": lambda index: running.console(index, state),
     }
     try:
-        yield plays[kind]
+        yield plays[trial.kind]
     finally:
-        running.run.stdin.close()
-        try:
-            status = running.run.wait(30 * trial.waits)
-        except subprocess.TimeoutExpired:
-            status = "it does not end"
-            running.run.kill()
-        if status != 0:
-            trial.find("crash", kind, -1, b"", f"the end: {status}")
+        stopped(trial, running)
 
 
-# The kinds, and of a hundred octets how many are theirs.
-KINDS = {kind: (begun, part) for kind, part in (("icp datagrams", 4), ("htcp datagrams", 4), ("requests", 6), ("responses of an origin", 5),
-                                               ("responses of a sibling", 4), ("console lines", 1))}
+# The kinds, as those of scripts.
+KINDS = {kind: (begun, part) for kind, part in (("icp datagrams", 7), ("htcp datagrams", 7), ("requests", 9), ("responses of an origin", 8),
+                                                  ("responses of a sibling", 6), ("console lines", 2))}

@@ -14,6 +14,7 @@ from random import Random
 
 from files import Lone, numbered
 from fuzzing.trial import Trial
+from peers import LOADER
 
 KINDS = ("node file", "master file", "node log", "master log")
 PAGE, ROWS, PENDING = 4096, 1000, 100
@@ -120,43 +121,64 @@ def differs(before: dict[str, object], after: dict[str, object]) -> str:
     return f"lower or lost floors {list(lower.items())[:3]}, other floors {list(other.items())[:3]}" if lower or other else ""
 
 
-def play(trial: Trial, kind: str, at: int) -> None:
-    """Overwrites each page of a file in each way."""
-    work = f"{trial.folder}/{kind.replace(' ', '-')}"
-    os.makedirs(f"{work}/made")
-    lone = Lone(work)
-    made(f"{work}/made", lone, trial.program)
-    if kind.endswith("log"):
-        purged(f"{work}/made", lone, trial.program, 20)
-    before = held(f"{work}/made")
-    name = NAMES[kind.split()[0]] + "-wal" * kind.endswith("log")
-    with open(f"{work}/made/{name}", "rb") as file:
-        octets = file.read()
-    ways = WAYS if not kind.endswith("log") else ["zeros", "noise", "cut off", "an octet"]
-    places = [(place, way) for place in pages(f"{work}/made/{name}") for way in ways]
-    for index, ((start, size), way) in enumerate(places):
-        if at not in (-1, index):
-            continue
-        folder = f"{work}/{index}"
-        shutil.copytree(f"{work}/made", folder)
-        changed = overwritten(trial.random(kind, index), octets, start, size, way)
-        with open(f"{folder}/{name}", "wb") as file:
-            file.write(changed)
-        judge(trial, lone, kind, index, folder, changed, before, way)
-        shutil.rmtree(folder)
+class Made:
+    """Files that are overwritten, as they were before, and the pages and the ways of one of them."""
+
+    def __init__(self, work: str, kind: str, program: str) -> None:
+        self.kind, self.folder = kind, f"{work}/made"
+        os.makedirs(self.folder)
+        lone = Lone(work)
+        made(self.folder, lone, program)
+        if kind.endswith("log"):
+            purged(self.folder, lone, program, 20)
+        self.before = held(self.folder)
+        self.name = NAMES[kind.split()[0]] + "-wal" * kind.endswith("log")
+        with open(f"{self.folder}/{self.name}", "rb") as file:
+            self.octets = file.read()
+        ways = WAYS if not kind.endswith("log") else ["zeros", "noise", "cut off", "an octet"]
+        self.places = [(start, size, way) for start, size in pages(f"{self.folder}/{self.name}") for way in ways]
+        self.count = len(self.places)
+
+    @contextlib.contextmanager
+    def begin(self, trial: Trial):
+        """Gives what overwrites a page in a way, both told by an index."""
+        lone = lone_at(trial)
+
+        def play(index: int) -> None:
+            start, size, way = self.places[index]
+            folder = f"{trial.folder}/{index}"
+            shutil.copytree(self.folder, folder)
+            changed = overwritten(trial.random(index), self.octets, start, size, way)
+            with open(f"{folder}/{self.name}", "wb") as file:
+                file.write(changed)
+            judge(trial, lone, index, folder, changed, self.before, way)
+            shutil.rmtree(folder)
+
+        yield play
 
 
-def judge(trial: Trial, lone: Lone, kind: str, index: int, folder: str, changed: bytes, before: dict[str, object], way: str) -> None:
+def lone_at(trial: Trial) -> Lone:
+    """A cluster of one member at the addresses of a slice."""
+    lone = Lone(trial.folder)
+    with open(lone.roster) as file:
+        text = file.read()
+    with open(lone.roster, "w") as file:
+        file.write(text.replace('"127.0.0.1"', f'"{trial.address(1)}"').replace(f'"{LOADER}"', f'"{trial.address(9)}"'))
+    return lone
+
+
+def judge(trial: Trial, lone: Lone, index: int, folder: str, changed: bytes, before: dict[str, object], way: str) -> None:
     ended, said = started(trial, lone, folder)
+    is_log = trial.kind.endswith("log")
     if ended in ("crash", "hang"):
-        trial.find(ended, kind, index, changed, said)
+        trial.find(ended, index, changed, said)
     elif ended == "opened":
         try:
             other = differs(before, held(folder))
         except sqlite3.Error as error:
             other = f"a file that SQLite does not read: {error}"
-        if other and (kind.endswith("log") or way == "an octet"):
+        if other and (is_log or way == "an octet"):
             ended = "opened with what SQLite cannot notice"
         elif other:
-            trial.find("wrong answer", kind, index, changed, f"{way}: {other}")
-    trial.tried(kind, len(changed), f"{way}: {ended}")
+            trial.find("wrong answer", index, changed, f"{way}: {other}")
+    trial.tried(len(changed), f"{way}: {ended}")

@@ -50,7 +50,7 @@ def changed(random: Random, octets: bytes, words: list[bytes]) -> bytes:
         case 6:
             return octets[:start]
         case 7 if end > start:
-            return octets[:start] + octets[start:end] * random.choice([2, 2, 2, 3, 3, 17, 17, 70, random.choice([70, 300, 5000])]) + octets[end:]
+            return octets[:start] + octets[start:end] * random.choices([2, 3, 17, 70, 300, 5000], [120, 80, 80, 50, 10, 3])[0] + octets[end:]
         case 8 if words:
             return octets[:start] + random.choice(words) + octets[end if random.random() < 0.3 else start:]
         case 9:

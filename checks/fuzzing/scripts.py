@@ -1,6 +1,8 @@
 """Scripts and rosters, each played by a run of the program and by checks/model."""
 
+import contextlib
 import subprocess
+from pathlib import Path
 from random import Random
 
 from fuzzing.inputs import changed, mutated
@@ -9,7 +11,8 @@ from model.__main__ import Runner, Told, model_of_lines, model_of_world, smaller
 from model.htcp import NUMBER_LINE, STAMP_LINE, ClrAnswer, ClrAsk, TstAsk, TstHit, number_line, write_htcp
 from model.icp import IcpMessage, write_icp
 from model.make_datagrams import made_htcp, made_icp
-from model.make_lines import CLEARS, KINDS, STAMPS, question
+from model.make_lines import CLEARS, STAMPS, question
+from model.make_lines import KINDS as LINE_KINDS
 from model.make_rosters import any_roster
 from model.make_urls import KEYS, made_url
 from model.make_worlds import world_script
@@ -24,9 +27,14 @@ TOML = [b"\n", b"\r\n", b"=", b"[", b"]", b"[[", b"]]", b"\"", b"'", b"\"\"\"", 
 
 
 def datagram(random: Random, protocol: str, clears: float = 0.4) -> bytes:
-    """A datagram that was changed. In most of them the lengths are mended then, so that what stands behind them is looked at."""
-    octets = bytearray(mutated(random, made_icp(random) if protocol == "icp" else made_htcp(random, clears))[:65_507])
-    if len(octets) >= 20 and random.random() < 0.8:
+    """A datagram that was changed."""
+    return changed_datagram(random, protocol, made_icp(random) if protocol == "icp" else made_htcp(random, clears))
+
+
+def changed_datagram(random: Random, protocol: str, made: bytes) -> bytes:
+    """Changes a datagram. In most of them the lengths are mended then, so that what stands behind them is looked at."""
+    octets = bytearray(mutated(random, made)[:65_507])
+    if len(octets) >= 20 - 6 * (protocol == "htcp") and random.random() < 0.8:
         if protocol == "icp":
             octets[2:4] = len(octets).to_bytes(2, "big")
         else:
@@ -49,7 +57,7 @@ def wire_lines(random: Random, protocol: str) -> tuple[list[bytes], int]:
 def answer_lines(random: Random) -> tuple[list[bytes], int]:
     lines, octets = [], 0
     for _ in range(LINES):
-        kind = random.choice(KINDS[:5])
+        kind = random.choice(LINE_KINDS[:5])
         if kind == "store":
             line = b"store " + made_url(random).replace(b"\n", b"\v") + (b" " + random.choice(STAMPS) if random.random() < 0.6 else b"")
             octets += len(line)
@@ -67,26 +75,36 @@ def edges(octets: bytes) -> list[bytes]:
     return fronts + [octets[:place] + bytes([octet]) + octets[place + 1:] for place in range(len(octets)) for octet in (0, 255)]
 
 
-def edge_lines(index: int) -> list[bytes]:
-    """A datagram of each kind behind a copy and a floor, with its edges, each behind a question that shows the copy."""
+def edge_lines(random: Random, index: int) -> list[bytes]:
+    """A datagram with its edges, each behind a copy and a floor, and before a question that shows the copy. The first ten are of each kind, the others any."""
     key, number = b"http://o/a", number_line(NUMBER_LINE, 7)
     specifier = (b"GET", key, b"HTTP/1.1")
+    query = write_icp(IcpMessage("Query", 7, key))
     messages = [
-        (b"icp", write_icp(IcpMessage("Query", 7, key))), (b"icp", write_icp(IcpMessage("Hit", 7, key))), (b"icp", write_icp(IcpMessage("Miss", 7, key))),
+        (b"icp", query), (b"icp", write_icp(IcpMessage("Hit", 7, key))), (b"icp", write_icp(IcpMessage("Miss", 7, key))),
         (b"htcp", write_htcp(TstAsk(7, 1, *specifier, b""))), (b"htcp", NOP), (b"htcp", write_htcp(TstHit(7, b"", b"", number_line(STAMP_LINE, 7)))),
         (b"master", write_htcp(ClrAsk(7, 1, 0, *specifier, number))), (b"htcp", write_htcp(ClrAsk(7, 1, 0, *specifier, b""))),
         (b"stranger", write_htcp(ClrAsk(7, 1, 0, *specifier, number))), (b"htcp", write_htcp(ClrAnswer(7, 0))),
     ]
-    word, octets = messages[index % len(messages)]
+    word, octets = messages[index] if index < len(messages) else any_message(random)
     lines = []
     for it in edges(octets):
-        lines += [b"store " + key + b" 9", word + b" " + it.hex().encode(), b"icp " + messages[0][1].hex().encode()]
+        lines += [b"store " + key + b" 9", word + b" " + it.hex().encode(), b"icp " + query.hex().encode()]
     return lines
 
 
+def any_message(random: Random) -> tuple[bytes, bytes]:
+    """The word of a line, and a datagram of 300 octets at most, so that it has few edges."""
+    word = random.choice([b"icp", b"htcp", b"master", b"stranger"])
+    while True:
+        octets = made_icp(random) if word == b"icp" else made_htcp(random, CLEARS.get(word.decode(), 0))
+        if len(octets) <= 300:
+            return word, octets
+
+
 def edges_of_datagrams(trial: Trial, runner: Runner, index: int) -> None:
-    lines = edge_lines(index)
-    compare(trial, runner, "edges of datagrams", index, "answer", lines, sum(len(it) // 2 for it in lines[1::3]))
+    lines = edge_lines(trial.random(index), index)
+    compare(trial, runner, index, "answer", lines, sum(len(it.split(b" ")[1]) // 2 for it in lines[1::3]))
 
 
 def told(runner: Runner, command: str, script: bytes, roster: bytes | None, waits: int) -> Told | str:
@@ -97,49 +115,60 @@ def told(runner: Runner, command: str, script: bytes, roster: bytes | None, wait
         return "hang"
 
 
-def compare(trial: Trial, runner: Runner, kind: str, index: int, command: str, lines: list[bytes], octets: int, roster: bytes | None = None) -> None:
+def compare(trial: Trial, runner: Runner, index: int, command: str, lines: list[bytes], octets: int, roster: bytes | None = None) -> None:
     model = (lambda some: model_of_lines(command, some)) if roster is None else (lambda some: model_of_world(roster, some))
     wanted, came = model(lines), told(runner, command, text_of(lines), roster, trial.waits)
     counted = wanted.answers or [(wanted.fault or "no answer").encode()]
     for at, answer in enumerate(counted):
         known = answer.split(b" ")[0]
-        trial.tried(kind, octets if at == 0 else 0, known.decode("latin-1")[:24] if known.isalpha() else "a datagram or a value")
+        trial.tried(octets if at == 0 else 0, known.decode("latin-1")[:24] if known.isalpha() else "a datagram or a value")
     if came == wanted:
         return
     if isinstance(came, str) or "status" in (came.fault or ""):
         what = "hang" if isinstance(came, str) else "crash"
-        return trial.find(what, kind, index, (roster or b"") + b"\0" * (roster is not None) + text_of(lines), came if isinstance(came, str) else came.fault)
+        return trial.find(what, index, (roster or b"") + b"\0" * (roster is not None) + text_of(lines), came if isinstance(came, str) else came.fault)
     few = smaller(lines, lambda some: told(runner, command, text_of(some), roster, trial.waits) != model(some))
     says = told(runner, command, text_of(few), roster, trial.waits)
-    trial.find("wrong answer", kind, index, (roster or b"") + b"\0" * (roster is not None) + text_of(few), f"program {says}, model {model(few)}")
+    trial.find("wrong answer", index, (roster or b"") + b"\0" * (roster is not None) + text_of(few), f"program {says}, model {model(few)}")
 
 
 def wire_icp(trial: Trial, runner: Runner, index: int) -> None:
-    compare(trial, runner, "wire icp", index, "wire icp", *wire_lines(trial.random("wire icp", index), "icp"))
+    compare(trial, runner, index, "wire icp", *wire_lines(trial.random(index), "icp"))
 
 
 def wire_htcp(trial: Trial, runner: Runner, index: int) -> None:
-    compare(trial, runner, "wire htcp", index, "wire htcp", *wire_lines(trial.random("wire htcp", index), "htcp"))
+    compare(trial, runner, index, "wire htcp", *wire_lines(trial.random(index), "htcp"))
 
 
 def answer(trial: Trial, runner: Runner, index: int) -> None:
-    compare(trial, runner, "answer", index, "answer", *answer_lines(trial.random("answer", index)))
+    compare(trial, runner, index, "answer", *answer_lines(trial.random(index)))
 
 
 def rosters(trial: Trial, runner: Runner, index: int) -> None:
-    random = trial.random("rosters", index)
+    random = trial.random(index)
     roster = any_roster(random)
     roster = changed(random, roster, TOML)[:20_000] if random.random() < 0.6 else roster
-    compare(trial, runner, "rosters", index, "world", [b"client 1 http://o/a", b"issue http://o/a"], len(roster), roster)
+    compare(trial, runner, index, "world", [b"client 1 http://o/a", b"issue http://o/a"], len(roster), roster)
 
 
 def world(trial: Trial, runner: Runner, index: int) -> None:
-    random = trial.random("world", index)
+    random = trial.random(index)
     roster, maker = world_script(random)
     lines = [mutated(random, line, WORDS).replace(b"\n", b"") if random.random() < 0.1 else line for line in maker.lines]
-    compare(trial, runner, "world", index, "world", lines, sum(map(len, lines)), roster)
+    compare(trial, runner, index, "world", lines, sum(map(len, lines)), roster)
 
 
-# The kinds, and of a hundred octets how many are theirs.
-SCRIPTS = {"wire icp": (wire_icp, 25), "wire htcp": (wire_htcp, 25), "answer": (answer, 19),
-           "edges of datagrams": (edges_of_datagrams, 1), "rosters": (rosters, 4), "world": (world, 2)}
+def begun(play):
+    """A kind whose inputs are played by runs of the program."""
+
+    @contextlib.contextmanager
+    def begin(trial: Trial):
+        runner = Runner(trial.program, Path(trial.folder))
+        yield lambda index: play(trial, runner, index)
+
+    return begin
+
+
+# The kinds: what begins them, and of a hundred octets how many are theirs.
+KINDS = {"wire icp": (begun(wire_icp), 14), "wire htcp": (begun(wire_htcp), 14), "answer": (begun(answer), 20),
+         "edges of datagrams": (begun(edges_of_datagrams), 2), "rosters": (begun(rosters), 6), "world": (begun(world), 3)}

@@ -1,5 +1,6 @@
 """Rosters: docs/RULES.md, "Rosters", and the tables of docs/FORMATS.md, "Rosters"."""
 
+import math
 import re
 import tomllib
 from dataclasses import dataclass, field
@@ -58,10 +59,18 @@ def fits_64_bits(value: Any) -> bool:
     return not isinstance(value, int) or -2**63 <= value < 2**63
 
 
+def float_of(text: str) -> float:
+    """A float; one beyond 64 bits is a fault of the document."""
+    value = float(text)
+    if math.isinf(value) and "inf" not in text:
+        raise ValueError(text)
+    return value
+
+
 def parse_toml(octets: bytes) -> dict[str, Any]:
     """A byte order mark in front is passed over; a number that does not fit 64 bits is a fault of the document."""
     try:
-        document = tomllib.loads(octets.decode().removeprefix("\ufeff"))
+        document = tomllib.loads(octets.decode().removeprefix("\ufeff"), parse_float=float_of)
     except (ValueError, RecursionError):
         raise Fault("BadToml") from None
     if not fits_64_bits(document):
