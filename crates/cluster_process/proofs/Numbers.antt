@@ -1,6 +1,7 @@
 -- A member that is found to be ahead of a number is one of those that are. Where the members are judged well, none is, and
 -- the files have what was acknowledged.
-use Rattle.std.proofs.Common.{◌≡◌, ℕ, ◌<◌, Bool, true, false, cond, ◌||◌, Option, Some, None, option_map, List, [], ◌∷◌, map, find, Result, Ok, Err, OnOk, refl, subst}
+use Rattle.std.proofs.Common.{◌≡◌, ℕ, ◌<◌, Bool, true, false, cond, ◌||◌, Option, Some, None, option_map, List, [], ◌∷◌, map, find, Result, Ok, Err}
+use Rattle.std.proofs.Common.{OnOk, refl, subst}
 use Rattle.std.proofs.Common.{ap, ◌∙◌, arith}
 use Rattle.std.proofs.lemmas.Bool.Decides.{nat_tests}
 use Rattle.std.specs.Prelude.{nat_lt}

@@ -14,7 +14,8 @@ use Rattle.values_plain.specs.declared.address.Address.{Address}
 use Rattle.values_plain.specs.declared.address.Udp.{Udp}
 use Rattle.node_bytes.specs.Turns.{MeetsOctets}
 use Rattle.cluster_service.specs.Questions.{begins_question}
-use Rattle.cluster_service.specs.Steps.{AsksOnce, Ending, QuestionsView, MeetsQuestion, DealsWith, Takes, Outcome, IsTurnAfter, IsTurnAsked, Step, Leads, begun_by, begun_in}
+use Rattle.cluster_service.specs.Steps.{AsksOnce, Ending, QuestionsView, MeetsQuestion, DealsWith, Takes, Outcome, IsTurnAfter, IsTurnAsked, Step}
+use Rattle.cluster_service.specs.Steps.{Leads, begun_by, begun_in}
 use Rattle.cluster_service.specs.Steps.{Follow, GoesOn, CarriesOn, turn_after, TakesRequest}
 
 -- Where nothing has begun, no step follows.

@@ -1,5 +1,6 @@
 -- Numbers below 2^64 are read back as they were written: decimal digits without a leading zero.
-use Rattle.std.proofs.Common.{◌≡◌, ℕ, ◌+◌, ◌-◌, ◌==◌, ◌/◌, ◌%◌, ◌^◌, ◌<◌, ◌≤◌, true, false, min, List, [], ◌∷◌, ◌++◌, length, get_or, Some, Ok, refl, ap, ◌∙◌, inl, inr}
+use Rattle.std.proofs.Common.{◌≡◌, ℕ, ◌+◌, ◌-◌, ◌==◌, ◌/◌, ◌%◌, ◌^◌, ◌<◌, ◌≤◌, true, false, min, List, [], ◌∷◌, ◌++◌, length, get_or, Some, Ok}
+use Rattle.std.proofs.Common.{refl, ap, ◌∙◌, inl, inr}
 use Rattle.std.proofs.Common.{arith, nat_lt, decimal, length-append, rules, unwrap_or}
 use Rattle.std.specs.List.{list_all, suffix_len, onto_first}
 use Rattle.std.specs.Char.{is_ascii_digit}
