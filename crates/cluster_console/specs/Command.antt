@@ -14,6 +14,7 @@ pub data Command : Type 0 where
   PendingLine : Command
   MembersLine : Command
   PeersLine : Command
+  RefusedLine : Command
   BadLine : Command
 
 -- a line as the code has it
@@ -26,15 +27,17 @@ command_text lines.Check = CheckLine
 command_text lines.Pending = PendingLine
 command_text lines.Members = MembersLine
 command_text lines.Peers = PeersLine
+command_text lines.Refused = RefusedLine
 command_text lines.Bad = BadLine
 
--- `check`, `pending`, `members` and `peers`
+-- `check`, `pending`, `members`, `peers` and `refused`
 abbrev pub alone : List ℕ → Command
 alone keyword =
     if bytes_eq keyword (codes "check") then CheckLine
     else if bytes_eq keyword (codes "pending") then PendingLine
     else if bytes_eq keyword (codes "members") then MembersLine
-    else if bytes_eq keyword (codes "peers") then PeersLine else BadLine
+    else if bytes_eq keyword (codes "peers") then PeersLine
+    else if bytes_eq keyword (codes "refused") then RefusedLine else BadLine
 
 -- `purge URL`
 abbrev pub purge_of : List ℕ → Command

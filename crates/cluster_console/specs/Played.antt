@@ -20,10 +20,10 @@ use Rattle.cluster_console.specs.declared.check.Checked.{Checked}
 use Rattle.cluster_console.specs.declared.check.DeadPeer.{DeadPeer}
 use Rattle.cluster_console.specs.declared.check.MemberState.{MemberState}
 use Rattle.cluster_console.specs.Checked.{Gathered, GoesOn, IsChecked}
-use Rattle.cluster_console.specs.Command.{Command, PurgeLine, AdmitLine, StatusLine, GetLine, CheckLine, PendingLine, MembersLine, PeersLine}
+use Rattle.cluster_console.specs.Command.{Command, PurgeLine, AdmitLine, StatusLine, GetLine, CheckLine, PendingLine, MembersLine, PeersLine, RefusedLine}
 use Rattle.cluster_console.specs.Command.{BadLine, command_of}
 use Rattle.cluster_console.specs.Shown.{purge_shown, admission_shown, asked_shown, got_shown, checked_shown, pending_shown, is_outside, stands}
-use Rattle.cluster_console.specs.Shown.{member_line, peers_shown}
+use Rattle.cluster_console.specs.Shown.{member_line, peers_shown, refused_line}
 
 -- the fault of a URL that has no key, or what is told of a URL that has one
 abbrev pub IsSaidOf : (List ℕ → Type 0) → Result (List ℕ) KeyFault → List ℕ → Type 0
@@ -94,6 +94,21 @@ TellsMembers roster text = (purges : PurgeList) × AreNumbered purges × TellsEa
 abbrev pub TellsPeers : List ℕ → Type 0
 TellsPeers text = (dead : List DeadPeer) × (text ≡ peers_shown dead)
 
+-- a member's line behind this text; how many requests it has refused no contract can say
+abbrev pub CountTells : ℕ → List ℕ → List ℕ → Type 0
+CountTells id before text = (count : ℕ) × (text ≡ before ++ refused_line id count)
+
+-- the lines of the members with an id of at most this one, by id
+abbrev pub CountsTell : Tables → ℕ → List ℕ → Type 0
+CountsTell roster zero text = text ≡ []
+CountsTell roster (suc id) text = (before : List ℕ) × CountsTell roster id before
+    × MatchBool (is_member roster (suc id)) (CountTells (suc id) before text) (text ≡ before)
+
+-- how many members there are, and then how many requests each has refused
+abbrev pub TellsRefused : Tables → List ℕ → Type 0
+TellsRefused roster text = (lines : List ℕ) × CountsTell roster 16 lines
+    × (text ≡ codes "refused " ++ decimal (length roster.members) ++ lines)
+
 -- the text may answer what a line asks for
 abbrev pub CommandTells : Tables → Option Gathered → Command → List ℕ → Type 0
 CommandTells roster gathered (PurgeLine url) text = IsSaid TellsPurge url text
@@ -104,6 +119,7 @@ CommandTells roster gathered CheckLine text = TellsCheck roster gathered text
 CommandTells roster gathered PendingLine text = TellsPending roster text
 CommandTells roster gathered MembersLine text = TellsMembers roster text
 CommandTells roster gathered PeersLine text = TellsPeers text
+CommandTells roster gathered RefusedLine text = TellsRefused roster text
 CommandTells roster gathered BadLine text = text ≡ codes "bad line"
 
 -- the text may answer the line, where this is gathered of the run

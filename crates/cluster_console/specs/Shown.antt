@@ -158,3 +158,7 @@ peer_line d = newline ∷ decimal d.member ++ codes " " ++ decimal d.peer ++ cod
 -- how many peers are thought dead, and then each of them
 abbrev pub peers_shown : List DeadPeer → List ℕ
 peers_shown dead = codes "peers " ++ decimal (length dead) ++ all_shown peer_line dead
+
+-- how many requests a member has refused, on a line of its own behind others: its id, and the count
+abbrev pub refused_line : ℕ → ℕ → List ℕ
+refused_line id count = newline ∷ decimal id ++ codes " " ++ decimal count

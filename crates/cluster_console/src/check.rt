@@ -43,7 +43,7 @@ pub struct DeadPeer {
     pub seconds: u64,
 }
 
-/// Judges the run of a hierarchy, and tells how its members stand.
+/// Judges the run of a hierarchy, and tells how its members stand and what they have refused.
 pub trait Checker {
     /// What was gathered of the run; none, where some of it is lost.
     ghost gathered: { Self → Option Gathered };
@@ -61,6 +61,10 @@ pub trait Checker {
 
     /// How the member of this id stands, whether it is outside or not.
     fn state(&self, id: u8) -> MemberState;
+
+    /// How many requests the member of this id has answered by a 503 of its own since its start; 0
+    /// where no such member runs.
+    fn refused(&self, id: u8) -> u64;
 
     /// Which peers the members think dead. `AllocError` comes where there is no memory for the
     /// list.

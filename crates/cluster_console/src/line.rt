@@ -23,6 +23,8 @@ pub(crate) enum Line<'a> {
     Members,
     /// `peers`: ask which peers the members think dead.
     Peers,
+    /// `refused`: ask how many requests each member has refused.
+    Refused,
     /// Anything else.
     Bad,
 }
@@ -52,6 +54,8 @@ fn line_alone<'a>(keyword: &[u8]) -> Line<'a>
         Line::Members
     } else if keyword == b"peers".as_slice() {
         Line::Peers
+    } else if keyword == b"refused".as_slice() {
+        Line::Refused
     } else {
         Line::Bad
     }

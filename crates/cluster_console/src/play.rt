@@ -10,7 +10,8 @@ ghost use Rattle.cluster_console.specs.Command.{command_text};
 ghost use Rattle.cluster_console.specs.Played.{IsSaid, IsTold, TellsPurge, TellsAdmission};
 ghost use Rattle.cluster_console.specs.Played.{TellsStatus, MemberTells, TellsEach};
 ghost use Rattle.cluster_console.specs.Played.{TellsAnswer, TellsCheck, TellsPending, TellsMembers};
-ghost use Rattle.cluster_console.specs.Played.{TellsPeers, GetTells, CommandTells, LineTells};
+ghost use Rattle.cluster_console.specs.Played.{TellsPeers, TellsRefused, CountTells, GetTells};
+ghost use Rattle.cluster_console.specs.Played.{CommandTells, LineTells};
 ghost use Rattle.cluster_console.specs.Played.{http_of as http_of_member};
 ghost use Rattle.cluster_console.specs.Shown.{is_in as is_in_purges};
 ghost use Rattle.cluster_console.specs.Shown.{is_outside as is_outside_member};
@@ -20,7 +21,7 @@ use crate::input::{InputFailed, LONGEST_LINE, LineRead, next_line};
 use crate::line::{Line, line_of};
 use crate::show::{
     push_admission, push_asked, push_checked, push_got, push_member, push_number, push_peers,
-    push_pending, push_purge, stands,
+    push_pending, push_purge, push_refused, stands,
 };
 use cluster_fetch::exchange;
 use cluster_master::{MasterSender, SharedMaster};
@@ -88,8 +89,10 @@ struct Player<'a, S: PurgeStore, C, R> {
 /// `admission` or its URL, and the ids of the members that it needs and that have not acknowledged
 /// it; `members` prints `members C`, and then a line for each: its id, and `open`, `outside`,
 /// `closed StoreFault` or `closed NoMemory`; `peers` prints `peers C`, and then a line `N P dead S`
-/// for each peer P that member N has thought dead for S seconds. Any other line, also one that names
-/// no member, prints `bad line`. Numbers are decimal, without leading zeros.
+/// for each peer P that member N has thought dead for S seconds; `refused` prints `refused C`, and
+/// then a line `N R` for each member: its id, and how many requests it has answered by a 503 of its
+/// own. Any other line, also one that names no member, prints `bad line`. Numbers are decimal,
+/// without leading zeros.
 ///
 /// A line of more than 140,000 octets prints `LineTooLong`, and one for which there is no memory
 /// `NoMemory`: a purge may have been issued then. An answer that the output does not take is lost.
@@ -306,6 +309,7 @@ impl<S: PurgeStore, C: Checker, R: Wait + Clock + Net> Player<'_, S, C, R> {
             Line::Pending => self.pending(text),
             Line::Members => self.members(text),
             Line::Peers => self.peers(alloc, text),
+            Line::Refused => self.refused(text),
             Line::Bad => text.extend_from_slice(b"bad line"),
         }
     }
@@ -475,6 +479,33 @@ impl<S: PurgeStore, C: Checker, R: Wait + Clock + Net> Player<'_, S, C, R> {
         };
         let poll = &mut self.poll;
         exchange(self.rt, alloc, poll, at, &ask, AskForm::Absolute, CLIENT)
+    }
+}
+
+impl<S: PurgeStore, C: Checker, R> Player<'_, S, C, R> {
+    /// Answers `refused`.
+    fn refused(&self, text: &mut Vec<u8>) -> Result<(), AllocError>
+        ensures { OnOk result ((answer : List ℕ) × TellsRefused self.now.roster.now answer
+            × (text.new.items ≡ text.old.items ++ answer)) }
+    {
+        text.extend_from_slice(b"refused ")?;
+        push_number(self.roster.members().len() as u64, text)?;
+        for told in 0..LAST_MEMBER {
+            self.count(told + 1, text)?;
+        }
+        Ok(())
+    }
+
+    /// Writes how many requests the member of this id has refused, if there is one.
+    fn count(&self, id: u8, text: &mut Vec<u8>) -> Result<(), AllocError>
+        ensures { OnOk result (MatchBool (is_member_of self.now.roster.now id)
+            (CountTells id text.old.items text.new.items)
+            (text.new.items ≡ text.old.items)) }
+    {
+        if self.roster.is_member(id) {
+            push_refused(id, self.checker.refused(id), text)?;
+        }
+        Ok(())
     }
 }
 

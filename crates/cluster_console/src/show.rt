@@ -10,7 +10,7 @@ ghost use Rattle.cluster_console.specs.Shown.{checked_shown, id_shown, among_sho
 ghost use Rattle.cluster_console.specs.Shown.{number_line, pending_line, admission_line};
 ghost use Rattle.cluster_console.specs.Shown.{pending_head, admission_lines, pending_shown};
 ghost use Rattle.cluster_console.specs.Shown.{state_shown, stands as stands_by, member_line};
-ghost use Rattle.cluster_console.specs.Shown.{peer_line, peers_shown};
+ghost use Rattle.cluster_console.specs.Shown.{peer_line, peers_shown, refused_line};
 
 use crate::check::{Checked, DeadPeer, MemberState};
 use http_messages::{Answer, FetchFault};
@@ -339,4 +339,14 @@ pub(crate) fn push_peers(dead: &[DeadPeer], text: &mut Vec<u8>) -> Result<(), Al
         push_peer(peer, text)?;
     }
     Ok(())
+}
+
+/// Writes how many requests a member has refused on a line of its own, behind others.
+pub(crate) fn push_refused(id: u8, count: u64, text: &mut Vec<u8>) -> Result<(), AllocError>
+    ensures { OnOk result (text.new.items ≡ text.old.items ++ refused_line id count) }
+{
+    text.extend_from_slice(b"\n")?;
+    push_number(u64::from(id), text)?;
+    text.extend_from_slice(b" ")?;
+    push_number(count, text)
 }

@@ -143,6 +143,15 @@ impl<S: PurgeStore> Checker for Judge<'_, S> {
         MemberState::Open
     }
 
+    fn refused(&self, id: u8) -> u64 {
+        for node in self.nodes {
+            if node.id == id {
+                return node.workers.refused();
+            }
+        }
+        0
+    }
+
     fn dead_peers<R: Wait + Clock>(
         &self,
         rt: &R,

@@ -14,7 +14,7 @@ use htcp_wire::{Content, HtcpFault, TST};
 use http_messages::Ask;
 use icp_wire::IcpFault;
 use node_bytes::{Packet, Turn};
-use node_rules::{Begin, Serve};
+use node_rules::{Begin, Serve, Served};
 use roster::{Address, Cache, Roster, Udp};
 use std::alloc::{AllocError, Global};
 use std::sync::atomic::{AtomicBool, AtomicU64, Ordering};
@@ -53,6 +53,10 @@ pub struct Station<G: Drop> {
     pub(crate) closing: Arc<Closing, Global>,
     /// Whether the node is to stop.
     pub(crate) is_stopped: Arc<AtomicBool, Global>,
+    /// How many requests were refused: counted once for each response of status 503 that the
+    /// member gives of itself. A response of that status that an origin or a peer gave is a copy,
+    /// and is not counted.
+    refused: Arc<AtomicU64, Global>,
     /// What is told of each read of an origin.
     pub(crate) gate: Arc<G, Global>,
     pub(crate) ghost has_node: { is_member roster id ≡ true },
@@ -160,6 +164,9 @@ fn fetch_from(from: (ResponseSource, Address), serial: u32, ask: Ask) -> Option<
 impl<G: Gate + Drop> Station<G> {
     /// The station of a member of the roster, with its peers, the senders of its sockets and the
     /// inbox of its event loop; nobody waits yet. `is_stopped` is set once the node is to stop.
+    /// `refused` counts the requests that are refused here: each response of status 503 that the
+    /// member gives of itself, once, as it is told to its client or left to the event loop. Those
+    /// of an origin or a peer are not counted, nor are connections that the loop refuses.
     /// `closing` is told of a fault that closes the node, and `gate` of each read of an origin.
     /// `AllocError` comes where there is no memory for the steps that may be owed.
     pub fn new(
@@ -170,6 +177,7 @@ impl<G: Gate + Drop> Station<G> {
         senders: Senders,
         inbox: Arc<Inbox, Global>,
         is_stopped: Arc<AtomicBool, Global>,
+        refused: Arc<AtomicU64, Global>,
         closing: Arc<Closing, Global>,
         gate: Arc<G, Global>,
     ) -> Result<Station<G>, AllocError>
@@ -186,6 +194,7 @@ impl<G: Gate + Drop> Station<G> {
             senders,
             closing,
             is_stopped,
+            refused,
             gate,
         })
     }
@@ -311,12 +320,20 @@ impl<G: Drop> Station<G> {
         }
     }
 
+    /// Counts a response that is about to be given, if it is a status 503 of the member itself.
+    pub(crate) fn count_refusal(&self, serve: &Serve<()>) {
+        if matches!(serve.served, Served::Status(503)) {
+            let _ = self.refused.fetch_add(1, Ordering::SeqCst);
+        }
+    }
+
     /// Leaves the response of a client that waits in the inbox.
     fn leave_response<R: Wait + Clock>(&self, rt: &R, serve: Serve<()>) {
         let Ok(now) = Instant::now(rt) else {
             return;
         };
         if let Some((Client::Waiting(stream), serve)) = self.answer(rt, serve) {
+            self.count_refusal(&serve);
             let delivery = Delivery::new(stream, serve, false, self.patience(), now);
             let _ = self.inbox.put(rt, Errand::Deliver(delivery));
         }

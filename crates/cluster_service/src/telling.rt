@@ -24,7 +24,8 @@ pub(crate) fn status(status: u16) -> Serve<()> {
 }
 
 /// Writes what a client takes of its response now, and leaves the rest to the event loop. `kept` is
-/// where short pieces are kept meanwhile. `lingers` where the client may still send.
+/// where short pieces are kept meanwhile. `lingers` where the client may still send. A 503 of the
+/// member itself is counted before anything of it is written.
 pub(crate) fn tell<G: Gate + Drop, R: Wait + Clock>(
     rt: &R,
     station: &Station<G>,
@@ -36,6 +37,7 @@ pub(crate) fn tell<G: Gate + Drop, R: Wait + Clock>(
     let Ok(now) = Instant::now(rt) else {
         return;
     };
+    station.count_refusal(&serve);
     let mut delivery = Delivery::new(stream, serve, lingers, station.patience(), now);
     let via = name_of(&station.roster, station.id);
     if delivery.go_on(kept, via) != Delivered::Ended {

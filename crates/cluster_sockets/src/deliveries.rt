@@ -11,7 +11,7 @@ use mio::{Registry, Token};
 use node_rules::{Serve, Served};
 use slab::Slab;
 use std::alloc::{AllocError, Global};
-use std::mem::swap;
+use std::mem::{replace, swap};
 use std::time::{Duration, Instant};
 
 /// How many responses are under way in the loop at most.
@@ -44,6 +44,8 @@ pub(crate) struct Deliveries {
     kept: Vec<u8>,
     first_token: usize,
     patience: Duration,
+    /// How many connections were told 503 since this was last taken.
+    refused: u64,
 }
 
 impl Deliveries {
@@ -63,6 +65,7 @@ impl Deliveries {
             kept: Delivery::buffer(alloc)?,
             first_token,
             patience,
+            refused: 0,
         })
     }
 
@@ -146,7 +149,12 @@ impl Deliveries {
         !self.ready.is_empty()
     }
 
-    /// Tells 503 to those whose connections are refused.
+    /// How many connections were told 503 since this was last called.
+    pub(crate) fn take_refused(&mut self) -> u64 {
+        replace(&mut self.refused, 0)
+    }
+
+    /// Tells 503 to those whose connections are refused, and counts them.
     pub(crate) fn refuse_all(
         &mut self,
         registry: &Registry,
@@ -160,6 +168,7 @@ impl Deliveries {
             let Some((stream, lingers)) = streams.next_refused() else {
                 break;
             };
+            self.refused = self.refused.saturating_add(1);
             self.add(
                 registry,
                 Delivery::new(stream, unavailable(), lingers, self.patience, now),

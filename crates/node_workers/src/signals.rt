@@ -6,12 +6,12 @@ use cluster_service::{Closing, peers_of};
 use cluster_waiting::PeerTable;
 use roster::Roster;
 use std::alloc::{AllocError, Global};
-use std::sync::atomic::AtomicBool;
+use std::sync::atomic::{AtomicBool, AtomicU64};
 use std::sync::{Arc, Wait};
 
 /// What a node's thread and the thread that started it share: whether the node is to stop, how its
-/// start went, whether it is held, whether it is closed, and how its peers answer,
-/// and whether it lacks descriptors.
+/// start went, whether it is held, whether it is closed, how its peers answer, whether it lacks
+/// descriptors, and how many requests it has refused.
 #[derive(Drop)]
 pub(crate) struct Signals {
     /// Whether the node is to stop.
@@ -26,6 +26,8 @@ pub(crate) struct Signals {
     pub(crate) peers: Arc<PeerTable, Global>,
     /// Whether a connection could not be accepted, or made for a fetch, for want of a descriptor.
     pub(crate) has_lacked: Arc<AtomicBool, Global>,
+    /// How many requests were answered by a 503 of the member itself.
+    pub(crate) refused: Arc<AtomicU64, Global>,
 }
 
 impl Signals {
@@ -50,6 +52,9 @@ impl Signals {
         let Ok(has_lacked) = Arc::new(alloc, AtomicBool::new(false)) else {
             return Err(Unready::NoMemory);
         };
+        let Ok(refused) = Arc::new(alloc, AtomicU64::new(0)) else {
+            return Err(Unready::NoMemory);
+        };
         Ok(Signals {
             is_stopped,
             report,
@@ -57,6 +62,7 @@ impl Signals {
             closing,
             peers,
             has_lacked,
+            refused,
         })
     }
 
@@ -69,6 +75,7 @@ impl Signals {
             closing: Arc::try_clone(&self.closing)?,
             peers: Arc::try_clone(&self.peers)?,
             has_lacked: Arc::try_clone(&self.has_lacked)?,
+            refused: Arc::try_clone(&self.refused)?,
         })
     }
 

@@ -250,6 +250,10 @@ fn poll_until_stopped<
         if poller.has_lacked_descriptors() {
             shared.signals.has_lacked.store(true, Ordering::SeqCst);
         }
+        let refused = poller.take_refused();
+        if refused > 0 {
+            let _ = shared.signals.refused.fetch_add(refused, Ordering::SeqCst);
+        }
     }
     refuse_rest(rt, station, jobs, pass, kept);
 }

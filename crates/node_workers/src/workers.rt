@@ -6,12 +6,11 @@ ghost use Rattle.node_core.specs.declared.opening.OpenFault.TheVariants as openi
 ghost use Rattle.node_workers.specs.declared.fault.StartFault.TheVariants as starting;
 
 use crate::fault::{StartFault, StopFault, Unready};
-use crate::halt::Halt;
 use crate::node::{Edge, Start, run_node};
 use crate::signals::Signals;
 use cluster_service::{CloseCause, Closing, Gate, Station};
 use cluster_sockets::{Delivery, Inbox, NodeLoop, Senders};
-use cluster_waiting::{AskedPeer, PeerTable};
+use cluster_waiting::AskedPeer;
 use floor_rules::FloorStore;
 use node_book::Record;
 use node_core::{Node, OpenFault};
@@ -48,11 +47,7 @@ pub struct Ground<S: FloorStore> {
 #[derive(Drop)]
 pub struct Workers {
     node: JoinHandle<Result<Option<Record>, StopFault>>,
-    is_stopped: Arc<AtomicBool, Global>,
-    halt: Arc<Halt, Global>,
-    closing: Arc<Closing, Global>,
-    peers: Arc<PeerTable, Global>,
-    has_lacked: Arc<AtomicBool, Global>,
+    signals: Signals,
 }
 
 /// Opens a node.
@@ -111,9 +106,10 @@ fn station<G: Gate + Drop>(
     let is_stopped = Arc::try_clone(&signals.is_stopped)?;
     let closing = Arc::try_clone(&signals.closing)?;
     let peers = Arc::try_clone(&signals.peers)?;
+    let refused = Arc::try_clone(&signals.refused)?;
     match roster.copy(alloc) {
         Ok(roster) => Ok(Station::new(
-            alloc, roster, id, peers, senders, inbox, is_stopped, closing, gate,
+            alloc, roster, id, peers, senders, inbox, is_stopped, refused, closing, gate,
         )?),
         Err(_) => Err(Unready::NoMemory),
     }
@@ -162,23 +158,8 @@ fn begin<
     let Ok(node) = thread::spawn(&rt, move || run_and_tell(&rt, start, &telling)) else {
         return Err(Unready::NoThread);
     };
-    let Signals {
-        is_stopped,
-        report,
-        halt,
-        closing,
-        peers,
-        has_lacked,
-    } = signals;
-    match report.wait(&rt) {
-        Ok(()) => Ok(Workers {
-            node,
-            is_stopped,
-            halt,
-            closing,
-            peers,
-            has_lacked,
-        }),
+    match signals.report.wait(&rt) {
+        Ok(()) => Ok(Workers { node, signals }),
         Err(fault) => {
             let _ended = node.join(&rt);
             Err(fault)
@@ -261,7 +242,7 @@ impl Workers {
     /// Why the node is closed, and so serves nothing and takes no purge; none while it is open. It
     /// stays closed.
     pub fn close_cause(&self) -> Option<CloseCause> {
-        self.closing.cause()
+        self.signals.closing.cause()
     }
 
     /// The peers that are thought dead: each has left 20 questions in succession unanswered, or a
@@ -269,27 +250,34 @@ impl Workers {
     /// not wait for them. `since` is in milliseconds of a clock that never goes back. `AllocError`
     /// comes where there is no memory for the list.
     pub fn dead_peers<R: Wait>(&self, rt: &R, alloc: Global) -> Result<Vec<AskedPeer>, AllocError> {
-        self.peers.dead(rt, alloc)
+        self.signals.peers.dead(rt, alloc)
+    }
+
+    /// How many requests the member has answered by a 503 of its own since its start: those that it
+    /// refused before a worker read them, those whose step was refused or found no room, and those
+    /// that ended so while they waited. A 503 that an origin or a peer gave is not counted.
+    pub fn refused(&self) -> u64 {
+        self.signals.refused.load(Ordering::SeqCst)
     }
 
     /// What tells another thread that a connection could not be accepted, or made for a fetch, for
     /// want of a descriptor: true from then on, until that thread clears it. `AllocError` comes
     /// where one more owner cannot be counted.
     pub fn has_lacked(&self) -> Result<Arc<AtomicBool, Global>, AllocError> {
-        Arc::try_clone(&self.has_lacked)
+        Arc::try_clone(&self.signals.has_lacked)
     }
 
     /// What tells another thread whether the node is closed, and why. `AllocError` comes where one
     /// more owner cannot be counted.
     pub fn closing(&self) -> Result<Arc<Closing, Global>, AllocError> {
-        Arc::try_clone(&self.closing)
+        Arc::try_clone(&self.signals.closing)
     }
 
     /// Holds the node, and waits until it is held: until [`Workers::resume`] no step is taken, and
     /// nothing is read from its sockets. Clients that wait for an answer wait on. One thread at a
     /// time may hold a node.
     pub fn hold<R: Wait>(&self, rt: &R) {
-        self.halt.hold(rt);
+        self.signals.halt.hold(rt);
     }
 
     /// Hands out the record of the steps since the last time, and begins the next one; or none,
@@ -300,21 +288,21 @@ impl Workers {
     /// its record stays with it, and may be asked for again. `Ended` where the node's thread has
     /// ended.
     pub fn record<R: Wait>(&self, rt: &R) -> Result<Option<Record>, StopFault> {
-        self.halt.hold(rt);
-        self.halt.ask(rt)
+        self.signals.halt.hold(rt);
+        self.signals.halt.ask(rt)
     }
 
     /// Has a node that is held go on.
     pub fn resume<R: Wait>(&self, rt: &R) {
-        self.halt.resume(rt);
+        self.signals.halt.resume(rt);
     }
 
     /// Tells the node to stop, also one that is held, and does not wait: the node reads no more
     /// from its sockets, and begins no more fetches. To stop several nodes at once, tell each first
     /// and then wait for each with [`Workers::stop`]. Telling it again changes nothing.
     pub fn begin_stop<R: Wait>(&self, rt: &R) {
-        self.is_stopped.store(true, Ordering::SeqCst);
-        self.halt.resume(rt);
+        self.signals.is_stopped.store(true, Ordering::SeqCst);
+        self.signals.halt.resume(rt);
     }
 
     /// Stops the node, also one that is held, and waits for its end. Its workers end the jobs that

@@ -527,15 +527,17 @@ fn a_full_lane_takes_no_more(rt: HostRuntime) -> Result<(), Fail> {
 /// More clients come whose requests are whole than their lane has places.
 const CROWD: [Act; 3] = [Act::Connect(257), Act::SendAll(WHOLE), Act::Polls(20)];
 
-/// What the last of 257 clients reads first.
+/// What the last of 257 clients reads first. The loop counts it once.
 #[test]
 fn a_client_without_a_place_is_told_so(rt: HostRuntime) -> Result<(), Fail> {
     let mut jobs = Vec::new(rt.alloc());
     let mut held = held_at(&rt, FIRST, 21250)?;
     run_at(&rt, &rt, &mut held, &CROWD, &mut jobs)?;
     let read = held.clients.read(256)?;
+    let refused = (held.poller.take_refused(), held.poller.take_refused());
     assert!(rt; jobs.len() == 256, "the jobs");
     assert!(rt; read == 16, "the front of a response");
+    assert!(rt; refused == (1, 0), "those that were told 503");
     Ok(())
 }
 
