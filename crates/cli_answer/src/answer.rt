@@ -70,7 +70,7 @@ pub(crate) enum Line<'a> {
 }
 
 /// Answers each line of the input by node 1 of a roster of two, at second 0. `store URL [STAMP]`
-/// places an empty copy with this stamp, or with the greatest purge number that the node has seen.
+/// places an empty copy with this stamp, or with the greatest number that the node has seen.
 /// `icp HEX` and `htcp HEX` are datagrams from node 2, `master HEX` is an HTCP datagram from the
 /// master, and `stranger HEX` one from an address that the roster does not have.
 ///

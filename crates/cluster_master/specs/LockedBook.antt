@@ -61,11 +61,10 @@ to_keep_after to_keep kept = if keeps to_keep (weight_of_all kept) then to_keep 
 
 -- the page is filed: the book has no entry, and the same master
 abbrev pub filed : {S : Type 0} → LockedBookView S → LockedBookView S
-filed locked = record {
+filed locked = record locked {
   book = emptied locked.book;
   kept = kept_with locked.to_keep locked.kept locked.book.entries;
   to_keep = to_keep_after locked.to_keep locked.kept;
-  may_be_due = locked.may_be_due;
 }
 
 -- a page is full that has 4,096 entries, or whose entries weigh so much

@@ -11,8 +11,9 @@
 //! "CLR"), and sends again the CLR of each pending number to each member that it needs and that has
 //! not acknowledged it: after 20 milliseconds, and then after about twice the time, up to a second.
 //! Where nothing can be due, no call is made and none is entered. Where a member was taken out of
-//! the roster, a purge may be pending that no member misses: from the start on its CLR is sent, more
-//! and more seldom, until a member that it needs has acknowledged it once more, which makes it done.
+//! the roster, a purge may be pending that no member misses. From the start on its CLR is sent,
+//! more and more seldom, until a member that it needs acknowledges it once more, which makes it
+//! done.
 //! A [`MasterSender`] issues a purge, or admits a member, and sends the CLR to each member that the
 //! number needs, from any thread, on the same socket. No lock is held while a socket is waited for
 //! or written.

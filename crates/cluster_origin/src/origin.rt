@@ -17,6 +17,7 @@ use values_plain::Address;
 /// Answers `count` requests at this address, one after another, and ends. A request that is not
 /// read is refused and not counted; nor is one counted whose response could not be sent. A client
 /// has five seconds to send its request and take its response; then its connection is closed.
+/// [Origin 1]
 ///
 /// Faults: `Port` where the address is in use or is not this machine's; `Io` where the system
 /// refuses in another way (a client that left before it was accepted is passed over); `NoMemory`

@@ -62,11 +62,12 @@ struct Common<'a> {
 ///
 /// For `check`, what the members and the master did is kept in memory: `history` pages of each
 /// member and of the master, of 4,096 steps or calls each. A page is shorter where a member's
-/// events, or the URLs and lists of the master's calls, have brought 4 MiB along. All that is kept
-/// may not be more than so many steps and calls; four floors, copies or pending requests in the
-/// opening or closing state of a record count as one, and so do 1,024 octets that events, URLs and
-/// lists have brought along. Where there would be more, all of it is dropped, and `check` prints
-/// `forgotten` from then on. With 0 nothing is kept.
+/// events have brought 4 MiB along, or the calls of the master weigh 4,096: each call as one, and
+/// 1,024 octets of its URL or list as one more. All that is kept may together not be more than the
+/// steps and calls of these pages. Four floors, copies or pending requests in the opening or
+/// closing state of a record count as one, and so do 1,024 octets that events, URLs and lists have
+/// brought along. Where there would be more, all of it is dropped, and `check` prints `forgotten`
+/// from then on. With 0 only the open page of the master is kept.
 ///
 /// What is kept at the end is returned, if it is all that was done until then; each verdict that
 /// was printed is the one on a front of it, which was gathered when that line came.

@@ -53,8 +53,8 @@ enum Lacking {
 ///   than those in its file; an empty or missing file has none.
 /// - `MasterBehind`: a member has stored a number that is greater than the last one of the master,
 ///   0 where it has no file.
-/// - `OtherRoster`: the file of a joining member has a number, and the member was not admitted. It is
-///   of another cluster, or the member was a founding one.
+/// - `OtherRoster`: the file of a joining member has a number, and the member was not admitted. It
+///   is of another cluster, or the member was a founding one.
 /// - The same faults as above for the first of the other files, which are made only now.
 ///
 /// After a fault no file is open. Before the last kind no file was made, and those that are there
@@ -197,8 +197,8 @@ fn may_be(has_master: bool, is_member: bool, is_founding: bool, has_file: bool) 
     }
 }
 
-/// The first member, by id, whose file is there and may not be, or is missing and may not be. No file
-/// is opened. None is returned where the folder may be one of this roster.
+/// The first member, by id, whose file is there and may not be, or is missing and may not be. No
+/// file is opened. None is returned where the folder may be one of this roster.
 fn other_file(
     files: &HostRuntime,
     alloc: Global,

@@ -1,5 +1,5 @@
-//! The thread that writes standard error: which members have closed, which lack descriptors, and that
-//! the input was at its end from the start.
+//! The thread that writes standard error: which members have closed, which lack descriptors, and
+//! that the input was at its end from the start.
 use crate::cluster::Running;
 use crate::fault::ClusterFault;
 use crate::master_thread::flag;
@@ -81,8 +81,8 @@ impl Watched {
         }
     }
 
-    /// Says that connections of the member wait, or its fetches fail, for want of descriptors, once a
-    /// second at most.
+    /// Says that connections of the member wait, or its fetches fail, for want of descriptors, once
+    /// a second at most.
     fn tell_want<R: Eprint>(&mut self, rt: &R) {
         if 0 < self.looks {
             self.looks -= 1;

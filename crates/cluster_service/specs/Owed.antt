@@ -1,4 +1,4 @@
--- Which steps are owed where memory lacks, and how they are taken again.
+-- Which steps are owed where memory lacks, and how they are taken again. [HTTP 20]
 use Rattle.std.specs.Prelude.{ℕ, Option, Some, None}
 use Rattle.node_rules.specs.declared.event.Event.{Event}
 use Rattle.node_rules.specs.declared.event.Event.TheVariants as event

@@ -71,6 +71,7 @@ pub(crate) fn begin_ask<G: Gate + Drop, R: Wait + Clock>(rt: &R, station: &Stati
 
 /// Tells 504 (RFC 9110, section 15.6.5) to clients whose requests have taken the roster's
 /// `ask_wait`, 256 at most. The answers to their requests, which may still come, are dropped then.
+/// [HTTP 19]
 pub fn tell_late<G: Gate + Drop, R: Wait + Clock>(
     rt: &R,
     station: &Station<G>,

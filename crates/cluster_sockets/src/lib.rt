@@ -13,10 +13,10 @@
 //!   octets), or its client sends no more, or once five seconds have passed since it was accepted
 //!   (RFC 9112, section 9.5). Until then the connection waits in the loop, so slow and silent
 //!   clients occupy no worker. A connection of which nothing has come by then is closed.
-//! - It takes errands from the [`Inbox`]: a [`FetchRequest`](cluster_fetch::FetchRequest) to begin, a
-//!   [`Delivery`] to write on. It goes on with fetches, 1,024 at once and 64 to one address, each
+//! - It takes errands from the [`Inbox`]: a [`FetchRequest`](cluster_fetch::FetchRequest) to begin,
+//!   a [`Delivery`] to write on. It goes on with fetches, 1,024 at once and 64 to one address, each
 //!   for five seconds, and puts a job for each that has ended. It writes responses on as clients
-//!   take them. Behind at most 256 of them the connection lingers, for five seconds or until its
+//!   take them. After at most 256 of them the connection lingers, for five seconds or until its
 //!   client closes it.
 //!
 //! In a flood nothing grows. A datagram whose lane of the queue is full is dropped. A connection

@@ -148,8 +148,8 @@ impl NodeLoop {
         self.streams.has_lacked() || has_fetch_lacked
     }
 
-    /// How many connections the loop has told 503 since this was last called: those that it refused.
-    /// No job has such a connection.
+    /// How many connections the loop has told 503 since this was last called: those that it
+    /// refused. No job has such a connection.
     pub fn take_refused(&mut self) -> u64 {
         self.deliveries.take_refused()
     }

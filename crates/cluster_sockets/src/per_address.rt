@@ -5,8 +5,8 @@ ghost use Rattle.cluster_sockets.specs.Counts.{count_at, goes_first};
 use std::alloc::Global;
 use std::collections::BTreeMap;
 
-/// How many connections come from each IPv4 address: those whose requests wait, or those of responses
-/// under way.
+/// How many connections come from each IPv4 address: those whose requests wait, or those of
+/// responses under way.
 #[derive(Drop)]
 pub(crate) struct PerAddress {
     counts: BTreeMap<u32, u32>,

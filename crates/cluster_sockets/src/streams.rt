@@ -50,8 +50,9 @@ pub(crate) struct Streams {
 }
 
 impl Streams {
-    /// Accepts from this listener. At most `most_of_address` connections of one address wait.
-    /// `AllocError` comes where there is no memory for 1,024 waiting connections.
+    /// Accepts from this listener. At most `most_of_address` connections of one address wait, and
+    /// more while the oldest are younger than a second. `AllocError` comes where there is no memory
+    /// for 1,024 waiting connections.
     pub(crate) fn new(
         alloc: Global,
         listener: TcpListener,

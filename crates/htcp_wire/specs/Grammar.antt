@@ -22,7 +22,7 @@ tst = 1
 abbrev pub clr : ℕ
 clr = 4
 
--- the overall code of a refusal: the opcode is not implemented
+-- the overall code of a refusal: the opcode is not implemented [HTCP 4]
 abbrev pub not_implemented : ℕ
 not_implemented = 2
 

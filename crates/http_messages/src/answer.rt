@@ -123,9 +123,8 @@ impl Answer {
         self.age
     }
 
-    /// The purge stamp that came with the response (`x-purge-stamp`): the greatest purge number
-    /// that the reader of the origin knew when that read began, as the sender says. `None`: none
-    /// came.
+    /// The purge stamp that came with the response (`x-purge-stamp`): the greatest number that the
+    /// reader of the origin knew when that read began, as the sender says. `None`: none came.
     pub fn stamp(&self) -> Option<u32>
         ensures { result ≡ self.now.stamp }
     {

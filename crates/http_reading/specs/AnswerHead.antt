@@ -12,7 +12,7 @@ use Rattle.http_messages.specs.Answer.{has_no_body}
 use Rattle.http_messages.specs.declared.fault.FetchFault.{FetchFault}
 use Rattle.http_messages.specs.declared.fault.FetchFault.TheVariants.{BadHead, BadBody, HeadTooLong}
 use Rattle.http_reading.specs.declared.framing.Framing.{Framing}
-use Rattle.http_reading.specs.declared.told.Told.{Told}
+use Rattle.http_reading.specs.declared.told.FinalHead.{FinalHead}
 use Rattle.http_reading.specs.Fields.{fields_of, has_field}
 use Rattle.http_reading.specs.Framing.{framing}
 use Rattle.http_reading.specs.AnswerFields.{age, stamp}
@@ -86,8 +86,8 @@ told h =
     if not (is_final h.status) then Err BadHead
     else (if are_few_fields (kept h.fields) then framed h (framing_by h.status h.minor h.fields) else Err HeadTooLong)
 
--- what a contract sees of `Told`
-abbrev pub told_text : Told → ToldText
+-- what a contract sees of `FinalHead`
+abbrev pub told_text : FinalHead → ToldText
 told_text t = record {
   status = t.status;
   fields = map field_text t.fields.items;

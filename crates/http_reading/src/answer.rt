@@ -11,7 +11,7 @@ ghost use Rattle.http_reading.specs.Answers.{most_interim};
 ghost use Rattle.http_reading.specs.Answers.{answer_of as answer_text_of};
 
 use crate::body::read_body;
-use crate::told::{Told, is_interim, tell};
+use crate::told::{FinalHead, is_interim, tell};
 use http_intake::Intake;
 use http_messages::{Answer, Body, FetchFault, Fields, MOST_FIELDS};
 use httparse::spans::{EMPTY_HEADER_SPAN, HeaderSpan, ResponseSpans};
@@ -98,7 +98,7 @@ fn read_told<R: Read>(
     reader: &mut R,
     intake: Intake,
     start: usize,
-    told: Told,
+    told: FinalHead,
 ) -> Result<Answer, FetchFault>
     requires start { start ≤ length intake.octets }
     requires few { intake.calls ≤ most_turns }
@@ -113,7 +113,7 @@ fn read_told<R: Read>(
 }
 
 /// The response of a head and a body. `NoMemory`: there was no memory for the list of fields.
-fn answer_of(alloc: Global, told: Told, body: Body) -> Result<Answer, FetchFault>
+fn answer_of(alloc: Global, told: FinalHead, body: Body) -> Result<Answer, FetchFault>
     requires { IsTrue (is_writable (answer_text_of (told_text told) body)) }
     ensures ok { IfOk result (λ answer. answer ≡ answer_text_of (told_text told) body) }
     ensures err { IfErr result (λ fault. fault ≡ FetchFault.NoMemory) }

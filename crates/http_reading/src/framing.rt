@@ -10,12 +10,9 @@ ghost use Rattle.http_reading.specs.Framing as spec;
 use crate::codings::{Codings, codings_left};
 use crate::decimal::number_up_to;
 use crate::fields::{Values, all_named, count_named};
-use http_messages::FetchFault;
+use http_messages::{FetchFault, LONGEST_BODY};
 use httparse::spans::HeaderSpan;
 use thiserror::Error;
-
-/// The most octets that a body may have.
-const LONGEST_BODY: u64 = 65_536;
 
 /// The most digits of a `content-length`; a number of 19 digits fits 64 bits.
 const MOST_DIGITS: usize = 19;
@@ -109,7 +106,9 @@ pub fn framing_of(window: &[u8], headers: &[HeaderSpan]) -> Result<Framing, Fetc
     let chunked = is_chunked(window, headers);
     let length = content_length(window, headers);
     match (chunked, length) {
-        (Ok(false), Ok(Some(length))) if length > LONGEST_BODY => Err(FetchFault::BodyTooLong),
+        (Ok(false), Ok(Some(length))) if length > LONGEST_BODY as u64 => {
+            Err(FetchFault::BodyTooLong)
+        }
         (Ok(false), Ok(Some(length))) => Ok(Framing::Length(length)),
         (Ok(false), Ok(None)) => Ok(Framing::ToEnd),
         (Ok(true), Ok(None)) => Ok(Framing::Chunked),

@@ -12,7 +12,7 @@ use std::alloc::Global;
 
 /// What the head of a final response says, apart from its body. The age is in seconds.
 #[derive(Drop)]
-pub(crate) struct Told {
+pub(crate) struct FinalHead {
     pub(crate) status: u16,
     pub(crate) fields: Vec<Field>,
     pub(crate) age: Option<u32>,
@@ -37,7 +37,7 @@ pub(crate) fn tell(
     window: &[u8],
     head: ResponseSpans,
     headers: &[HeaderSpan],
-) -> Result<Told, FetchFault>
+) -> Result<FinalHead, FetchFault>
     requires within { IsResponseWithin window.now headers.now head }
     requires head { IsResponseOf window.now headers.now head }
     ensures says { MatchResult result
@@ -52,7 +52,7 @@ pub(crate) fn tell(
     }
     let fields = kept_fields(alloc, window, headers)?;
     let framing = framing_by(head.code, head.version, window, headers)?;
-    Ok(Told {
+    Ok(FinalHead {
         status: head.code,
         fields,
         age: age(window, headers),

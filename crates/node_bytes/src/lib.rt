@@ -23,7 +23,8 @@
 //!
 //! Pure: no socket and no clock; the caller passes octets, sender and time. A contract sees a
 //! `Stepper` by its own relation `takes`. Any other call that allocates may fail with `NoMemory` or
-//! `AllocError`; `Turn::of` then sends none of the datagrams. No contract says that memory suffices.
+//! `AllocError`; `Turn::of` then sends none of the datagrams. No contract says that memory
+//! suffices.
 #![tactic(auto)]
 
 mod calls;

@@ -99,7 +99,8 @@ fn any_packets_of(alloc: Global, messages: &[Outgoing]) -> Result<Vec<Packet>, A
 ///
 /// Faults are those of the step. `NoMemory` may also come before the step, only if the octets are a
 /// message: no step is taken then. After a step that stands no fault comes: if memory for its
-/// datagrams is lacking, none of them is sent, and what it serves and begins is told ([`Turn::of`]).
+/// datagrams is lacking, none of them is sent, and what it serves and begins is told
+/// ([`Turn::of`]).
 pub fn on_datagram<N: Stepper>(
     alloc: Global,
     node: &mut N,

@@ -36,7 +36,7 @@ put_as put.Kept = placed.Kept
 put_as put.Stored = placed.Stored
 
 module _ {X : Type 0} (limits : Limits) (s : NodeState X) (key : List ℕ) (stamp : Option ℕ) (tag : X) where
-  -- the given stamp, or the greatest purge number seen
+  -- the given stamp, or the greatest number seen
   abbrev pub placed_stamp : ℕ
   placed_stamp = unwrap_or stamp (seen s.floors)
 

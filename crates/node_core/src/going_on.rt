@@ -166,8 +166,8 @@ impl<T: Copy + Drop, S: FloorStore> Node<T, S> {
         self.begin_read(place, progress, now, mark)
     }
 
-    /// Begins an origin read for the request at a place, with the greatest purge number seen and
-    /// the mark of the step.
+    /// Begins an origin read for the request at a place, with the greatest number seen and the
+    /// mark of the step.
     fn begin_read(
         &mut self,
         place: usize,

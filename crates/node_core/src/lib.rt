@@ -27,17 +27,16 @@
 //! Purges and admissions alone write to the store. The order of a purge, in `purge` of
 //! `src/purges.rt`:
 //!
-//! 1. make the response;
-//! 2. where the base of the floors is to rise, drop all copies below the new base;
-//! 3. raise the floor in memory;
-//! 4. raise it in the store, which commits it;
-//! 5. drop an older copy of the key;
-//! 6. return the response, so the acknowledgement leaves only after the commit.
+//! 1. where the base of the floors is to rise, drop all copies below the new base;
+//! 2. raise the floor in memory;
+//! 3. raise it in the store, which commits it;
+//! 4. drop an older copy of the key;
+//! 5. make and return the response, so the acknowledgement leaves only after the commit.
 //!
-//! An admission, in `rebase` of `src/admissions.rt`, does the same but for 5: all copies below its
-//! number go at 2, and 3 and 4 raise the base.
+//! An admission, in `rebase` of `src/admissions.rt`, does the same but for 4: all copies below its
+//! number go at 1, and 2 and 3 raise the base.
 //!
-//! If the store fails at 4, even for lack of memory, the node closes: it drops its pending requests
+//! If the store fails at 3, even for lack of memory, the node closes: it drops its pending requests
 //! and answers `Closed` from then on. The store then has the floors from before the raise or from
 //! after it, and the copies that 2 dropped are gone.
 //!

@@ -74,7 +74,7 @@ fn empty_store<T>(
 
 impl<T, S: FloorStore + Drop> Node<T, S> {
     /// Opens the node of a member, with the floors of its store and nothing else: no copy, no
-    /// pending request, and block 1 next.
+    /// pending request, and block 1 next. [Node 4]
     ///
     /// It finds copies by hashes with fixed keys. Use `open_with_random_keys` if strangers choose
     /// the URLs.

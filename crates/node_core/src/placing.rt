@@ -98,7 +98,7 @@ fn placed_by(put: Put) -> Placed
 
 impl<T: Copy + Drop, S: FloorStore> Node<T, S> {
     /// Puts a copy into the store: an empty response of status 200, requested at time 0 and fresh
-    /// for 60 seconds. Its stamp is the given one, or else the greatest purge number seen.
+    /// for 60 seconds. Its stamp is the given one, or else the greatest number seen.
     ///
     /// A stamp below the key's floor puts nothing (`Old`). A closed node gives `Closed`.
     pub fn place(&mut self, key: &Key, stamp: Option<u32>, tag: T) -> Result<Placed, PlaceFault>

@@ -40,7 +40,7 @@ ask_peer g s p peer cached now =
     let q = fetching p p.reads (AtPeer peer now) in
     replies (changing s q) (beginning (begin.Peer (fetch_serial q) peer (peer_ask p.ask.key cached (own_id g.id peer))))
 
--- An origin read begins. It bears the greatest purge number seen so far, and the mark of the step. [Fetch 1]
+-- An origin read begins. It bears the greatest number seen so far, and the mark of the step. [Fetch 1]
 unfoldable pub begin_read : {X : Type 0} → NodeState X → Pending X → ℕ → X → Stepped X
 begin_read s p now mark =
     let q = fetching p (p.reads + 1) (AtOrigin (seen s.floors) now mark) in

@@ -21,7 +21,7 @@ pub enum Fetch<T> {
     },
     /// The origin is being read.
     AtOrigin {
-        /// The greatest purge number that the node knew when the read began.
+        /// The greatest number that the node knew when the read began.
         stamp: u32,
         /// When the read began, in seconds.
         asked: u64,
@@ -55,7 +55,7 @@ pub struct Pending<T> {
     pub fetch: Fetch<T>,
 }
 
-/// The state of a node.
+/// The state of a node. [Node 1]
 #[derive(Drop)]
 pub struct NodeState<T> {
     /// The floors: the greatest purge number of each key.

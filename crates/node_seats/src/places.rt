@@ -4,7 +4,7 @@ use std::sync::Arc;
 use std::sync::atomic::{AtomicU64, Ordering};
 
 /// Gives the numbers from 1 upwards, each to one caller until 2^64 were given. No contract says so:
-/// the check of a run tests the places that it finds.
+/// the check of a run tests the places that it finds. [Book 6]
 #[derive(Drop)]
 pub struct Places {
     next: Arc<AtomicU64, Global>,

@@ -5,13 +5,13 @@ use http_messages::Answer;
 use std::alloc::{AllocError, Global};
 use url_key::Key;
 
-/// A stored response to a GET of one URL.
+/// A stored response to a GET of one URL. [Copy 1]
 #[derive(Drop)]
 pub struct WebCopy<T> {
     /// The key of the URL.
     pub key: Key,
-    /// The stamp: the greatest purge number known to the reader when its read from the origin
-    /// began. 0: not known.
+    /// The stamp: the greatest number known to the reader when its read from the origin began. 0:
+    /// not known.
     pub stamp: u32,
     /// The moment of the request, in seconds of the caller's clock.
     pub asked: u64,

@@ -9,9 +9,9 @@
 //! The rules are this product's profile of RFC 9111, stricter than the RFC in these points: six
 //! statuses only; a response with `vary` is not stored; `no-cache` and `private` forbid storing
 //! even with a value; a quoted string that is not closed, or begins where none may, forbids it;
-//! without `max-age` and `s-maxage`, a response with `expires` is not stored, since no date is read.
-//! The request is not looked at: that a request with credentials is refused is `http_reading`'s
-//! rule.
+//! without `max-age` and `s-maxage`, a response with `expires` is not stored, since no date is
+//! read. The request is not looked at: that a request with credentials is refused is
+//! `http_reading`'s rule.
 //!
 //! Read first `specs/Lifetime` (the lifetime, by cases) and `specs/Freshness` (one comparison),
 //! then `specs/Directives` (the `cache-control` directives of a response). In the code,

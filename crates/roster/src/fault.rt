@@ -101,6 +101,10 @@ pub struct RosterError {
 impl fmt::Display for RosterError {
     fn fmt<W: fmt::Write>(&self, f: &mut fmt::Formatter<W>) -> fmt::Result {
         write_table(f, self.place)?;
+        if self.fault == RosterFault::BadField && self.place.key.is_empty() {
+            let keys = keys_of(self.place.table);
+            return write!(f, "it is missing, or has a key that is none of {keys}");
+        }
         f.write_str(match self.fault {
             RosterFault::BadToml => "the text is no TOML document",
             RosterFault::BadField =>
@@ -115,6 +119,21 @@ impl fmt::Display for RosterError {
 }
 
 impl Error for RosterError {}
+
+/// The keys that a table of this kind may have, for the person who misspelled one.
+fn keys_of(kind: TableKind) -> &'static str {
+    match kind {
+        TableKind::Top => {
+            "default_lifetime, copies, bytes, query_wait, answer_wait, fetch_wait, ask_wait, \
+             fetches_per_address, clients_per_address, master, node, foreign, origin"
+        }
+        TableKind::Master => "address, htcp",
+        TableKind::Node => "id, name, address, http, icp, htcp, joins, peer",
+        TableKind::Peer => "id, role, by",
+        TableKind::Foreign => "id, name, address, http, icp, htcp",
+        TableKind::Origin => "host, port, address, connect",
+    }
+}
 
 /// Writes where a fault is: the table, its number, the key and the line.
 fn write_table<W: fmt::Write>(f: &mut fmt::Formatter<W>, place: TextPlace) -> fmt::Result {

@@ -1,5 +1,5 @@
 -- What the tables of a TOML document say of a roster: `tables_in` for a text, `tables_of` for a
--- document. A value is None if a key is missing, unknown, of another type or out of its range.
+-- document. [Roster 3] A value is None if a key is missing, unknown, of another type or out of its range.
 use Rattle.std.specs.Prelude.{ℕ, ◌+◌, ◌*◌, pos, negsuc, ℤ, Bool, false, bytes_eq, List, [], ◌∷◌, slice_index, codes, Option, Some, None, option_and_then}
 use Rattle.std.specs.Prelude.{option_map, if◌then◌else◌}
 use Rattle.std.specs.Net.Reader.{read_ipv4}
