@@ -58,7 +58,9 @@ def grow(path):
 
 
 def make():
-    """Makes the folder `first`."""
+    """Makes the folder `first`, unless it is there."""
+    if os.path.isdir("first"):
+        return
     os.mkdir("first")
     write("first/node-1.db", ("form", "floors", "base"), [f"INSERT INTO base VALUES (1, {OLD})"], FLOORS.items())
     grow("first/node-1.db")
