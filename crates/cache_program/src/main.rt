@@ -69,7 +69,7 @@ fn main(rt: HostRuntime) -> ExitCode {
     failure::status_of(&rt, done)
 }
 
-/// Prints what the command line is answered: its fault, or help.
+/// Prints what the command line is answered: its fault, help, or the version.
 fn refused<R: Print + Eprint>(rt: &R, error: &Error) -> ExitCode {
     let _ = error.print(rt);
     ExitCode::from(cli_words::status_of(error))

@@ -2,9 +2,13 @@
 use clap::{Arg, Command, value_parser};
 use std::alloc::{AllocError, Global};
 
+/// The version of the program, which is also the newest one of CHANGELOG.md.
+const VERSION: &str = "0.1.0";
+
 /// `cache` with its commands.
 pub(crate) fn cache_command<'a>(alloc: Global) -> Result<Command<'a>, AllocError> {
     Command::new(alloc, "cache")
+        .version(VERSION)
         .about("Sibling web caches that answer each other by ICP and purge for good")
         .subcommand_required(true)
         .arg_required_else_help(true)

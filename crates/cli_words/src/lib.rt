@@ -1,10 +1,10 @@
-//! The command line of `cache`: which words ask for which task, and the texts of help.
+//! The command line of `cache`: which words ask for which task, the texts of help, and the version.
 //!
 //! [`task_of`] makes a [`Task`] of the words of a command line. [`status_of`] is the status with
 //! which the process ends where they ask for none. The kit's `clap` parses the words.
 //!
-//! Order of reading: `src/commands.rt` (the commands, their arguments and texts of help),
-//! `src/task.rt` (what they ask for); `specs/Tasks.antt`, `specs/Statuses.antt`.
+//! Order of reading: `src/commands.rt` (the version, the commands, their arguments and texts of
+//! help), `src/task.rt` (what they ask for); `specs/Tasks.antt`, `specs/Statuses.antt`.
 //!
 //! The crate touches nothing but the words that are passed in.
 //!

@@ -66,8 +66,8 @@ pub enum Task {
 /// What these words ask for; the first is the program's name.
 ///
 /// The error is a text for a person: help, where that is asked for or no command is given; the
-/// first word that is wrong; or that there was no memory. [`status_of`] gives the status that goes
-/// with it.
+/// version, where that is asked for; the first word that is wrong; or that there was no memory.
+/// [`status_of`] gives the status that goes with it.
 pub fn task_of(alloc: Global, words: &[String]) -> Result<Task, Error>
     ensures { IfOk result IsTask }
 {
@@ -84,8 +84,8 @@ pub fn task_of(alloc: Global, words: &[String]) -> Result<Task, Error>
     }
 }
 
-/// The status with which the process ends after this error: 0 after help that was asked for, 1
-/// where there was no memory, and 2 where the words are wrong.
+/// The status with which the process ends after this error: 0 after help or the version, where that
+/// was asked for, 1 where there was no memory, and 2 where the words are wrong.
 pub fn status_of(error: &Error) -> u8
     ensures { result ≡ status_for (kind_of error.now) }
 {
