@@ -1,9 +1,9 @@
-//! Duplicates of a node's events, replies and messages, and comparisons of them.
+//! Duplicates of a node's events, replies and messages, and comparisons of replies, messages and their
+//! parts.
 //!
 //! - `src/events.rt`: [`copy_of_event`]
 //! - `src/replies.rt`: [`copy_of_reply`]
 //! - `src/messages.rt`: [`copy_of_received`], [`copy_of_sent`]
-//! - `src/same_events.rt`: [`same_event`]
 //! - `src/same_replies.rt`: [`same_outcome`], [`same_reply`], [`same_served`]
 //! - `src/same_messages.rt`: [`same_message`]
 //! - `src/parts.rt`: [`same_key`], [`same_ask`], [`same_answer`], [`same_fields`], [`same_copy`]
@@ -24,7 +24,6 @@ mod events;
 mod messages;
 mod parts;
 mod replies;
-mod same_events;
 mod same_messages;
 mod same_replies;
 
@@ -32,6 +31,5 @@ pub use events::copy_of_event;
 pub use messages::{copy_of_received, copy_of_sent};
 pub use parts::{same_answer, same_ask, same_copy, same_fields, same_key};
 pub use replies::copy_of_reply;
-pub use same_events::same_event;
 pub use same_messages::same_message;
 pub use same_replies::{same_outcome, same_reply, same_served};

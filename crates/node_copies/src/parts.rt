@@ -1,4 +1,4 @@
-//! Compares the parts of events and replies.
+//! Compares keys, requests, responses and copies.
 ghost use Rattle.std.specs.Prelude.{◌≡◌, ◌↔◌, IsTrue, map};
 ghost use Rattle.http_messages.specs.Field.{field_text};
 

@@ -4,7 +4,7 @@ ghost use Rattle.std.specs.Prelude.{◌≡◌, ◌↔◌, IsTrue};
 use crate::parts::same_octets;
 use htcp_wire::{Content, Detail, Htcp, Specifier};
 use icp_wire::Icp;
-use node_rules::{Message, Received, Sent};
+use node_rules::{Message, Sent};
 
 /// Whether two ICP messages are equal.
 fn same_icp(one: &Icp, other: &Icp) -> bool
@@ -114,13 +114,6 @@ pub fn same_message(one: &Message, other: &Message) -> bool
         (Message::Htcp(one), Message::Htcp(other)) => same_htcp(one, other),
         _ => false,
     }
-}
-
-/// Whether two received messages are equal.
-pub(crate) fn same_received(one: &Received, other: &Received) -> bool
-    ensures { IsTrue result ↔ (one.now ≡ other.now) }
-{
-    same_message(one.message(), other.message())
 }
 
 /// Whether two messages to send are equal.
