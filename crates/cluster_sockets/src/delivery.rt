@@ -6,8 +6,8 @@ ghost use Rattle.http_writing.specs.Name.{is_name as names_cache};
 use crate::outgoing::{KEPT, Outgoing};
 use mio::net::TcpStream;
 use mio::{Interest, Registry, Token};
-use node_http::finish;
 use node_rules::Serve;
+use node_serving::finish;
 use std::alloc::{AllocError, Global};
 use std::io::{self, ErrorKind, Read, Write};
 use std::net::Shutdown;
@@ -35,7 +35,6 @@ pub enum Delivered {
 }
 
 /// A response on its way to its client, on a connection of its own.
-#[derive(Drop)]
 pub struct Delivery {
     stream: TcpStream,
     serve: Serve<()>,
@@ -47,6 +46,22 @@ pub struct Delivery {
     patience: Duration,
     until: Instant,
     sent_before: usize,
+}
+
+impl Drop for Delivery {
+    fn drop(self) {
+        let Delivery {
+            stream: _,
+            serve: _,
+            sent: _,
+            lingers: _,
+            is_written: _,
+            lingers_since: _,
+            patience: _,
+            until: _,
+            sent_before: _,
+        } = self;
+    }
 }
 
 impl Delivery {

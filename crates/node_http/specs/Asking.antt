@@ -26,7 +26,7 @@ use Rattle.node_http.specs.declared.taking.Taken.TheVariants as taken
 use Rattle.node_http.specs.declared.fault.ServeFault.{ServeFault}
 use Rattle.node_http.specs.declared.fault.ServeFault.TheVariants.{Fetch, Step}
 use Rattle.node_http.specs.Statuses.{status_for}
-use Rattle.node_http.specs.Serving.{serve_text, refusal_text}
+use Rattle.node_serving.specs.Serving.{serve_text, refusal_text}
 
 -- Who sends the request
 

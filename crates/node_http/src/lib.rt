@@ -5,7 +5,7 @@
 //!   that the request waits. [`status_for`] is the status of a refusal.
 //! - [`serve_ask`] is the whole way. It returns [`Asked`]: the response is written, or the request
 //!   waits as the pending request of a block, with a `Turn` to carry out until then.
-//! - [`finish`] writes what a later step serves to a client that waited.
+//! - [`finish`] of `node_serving` writes what a later step serves to a client that waited.
 //! - [`name_of`] gives the name of a member, which stands in `via`.
 //! - [`ServeFault`] says why a request was not served.
 //!
@@ -16,7 +16,7 @@
 //!
 //! - `specs/Asking`: what becomes of a request, in order from reading to writing; `src/taking.rt`,
 //!   `src/asking.rt`
-//! - `specs/Serving`: the octets of a response; `src/serving.rt`
+//! - `specs/Serving` of `node_serving`: the octets of a response
 //! - `specs/Statuses`: the status of each refusal; `src/refusing.rt`
 //! - `src/roster_names.rt`: which member sends a request, and names; `src/fault.rt`: the fault
 //! - `proofs/Asks`, `proofs/Names`: what a reply to a request leads to; every member's name may
@@ -35,12 +35,11 @@ mod asking;
 mod fault;
 mod refusing;
 mod roster_names;
-mod serving;
 mod taking;
 
 pub use asking::{Asked, serve_ask};
 pub use fault::ServeFault;
+pub use node_serving::finish;
 pub use refusing::status_for;
 pub use roster_names::name_of;
-pub use serving::finish;
 pub use taking::{Taken, take_ask};

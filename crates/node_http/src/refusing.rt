@@ -4,7 +4,7 @@ ghost use Rattle.values_plain.specs.Writing.{AppendsFront};
 ghost use Rattle.http_writing.specs.Name.{is_name as names_cache};
 ghost use Rattle.node_http.specs.Statuses.{refusal_of as status_refusing};
 ghost use Rattle.node_http.specs.Statuses.{status_for as status_told};
-ghost use Rattle.node_http.specs.Serving.{refusal_text};
+ghost use Rattle.node_serving.specs.Serving.{refusal_text};
 
 use crate::fault::ServeFault;
 use http_messages::FetchFault;

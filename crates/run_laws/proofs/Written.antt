@@ -4,7 +4,7 @@ use Rattle.node_rules.specs.declared.reply.Served.{Served}
 use Rattle.node_rules.specs.declared.reply.Served.TheVariants.{Copy, Status}
 use Rattle.node_rules.specs.Tags.{retag_served}
 use Rattle.http_writing.specs.Answer.{answer_text}
-use Rattle.node_http.specs.Serving.{serve_text}
+use Rattle.node_serving.specs.Serving.{serve_text}
 use Rattle.world_rules.specs.World.{answer_of}
 
 pub written : (asker : ℕ) (served : Served ℕ) (via : List ℕ) → serve_text (Some asker) (retag_served (λ _. tt) served) via ≡ answer_text (answer_of served) via

@@ -3,7 +3,7 @@ ghost use Rattle.std.specs.Prelude.{◌≡◌, ℕ, List, Some};
 ghost use Rattle.node_rules.specs.declared.reply.Served.{Served};
 ghost use Rattle.node_rules.specs.Tags.{retag_served};
 ghost use Rattle.http_writing.specs.Answer.{answer_text};
-ghost use Rattle.node_http.specs.Serving.{serve_text};
+ghost use Rattle.node_serving.specs.Serving.{serve_text};
 ghost use Rattle.world_rules.specs.World.{answer_of};
 
 /// A member is written the octets of the response that the world sends it, for a copy and for a

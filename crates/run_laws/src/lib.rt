@@ -6,8 +6,8 @@
 //!   read from its origin after the purge was issued. And no entry of a sibling's request begins
 //!   anything. This holds for each run that is a run of the model (`IsRecordedRun` of `run_rules`),
 //!   which the verdict `Yes` of `run_check` shows.
-//! - [`members_are_written_what_the_world_sends`] in `src/edge.rt`: `node_http` says which octets a
-//!   member is written; `world_rules` says which response the world sends to a member. The two
+//! - [`members_are_written_what_the_world_sends`] in `src/edge.rt`: `node_serving` says which octets
+//!   a member is written; `world_rules` says which response the world sends to a member. The two
 //!   agree.
 //! - [`steps_of_other_tags_are_steps`] in `src/tags.rt`: a node that carries other tags takes no
 //!   step that it would not take with its own. That each step stays a step with other tags is a law

@@ -2,7 +2,7 @@
 ghost use Rattle.std.specs.Prelude.{◌≡◌, IfErr, IsTrue};
 ghost use Rattle.values_plain.specs.Writing.{Writes};
 ghost use Rattle.http_writing.specs.Name.{is_name as names_cache};
-ghost use Rattle.node_http.specs.Serving.{serve_text, stamp_for as stamp_told};
+ghost use Rattle.node_serving.specs.Serving.{serve_text, stamp_for as stamp_told};
 
 use http_messages::FetchFault;
 use http_writing::{write_served, write_status};
