@@ -146,11 +146,11 @@ class Node:
         if len(self.waiting) >= MOST_WAITING:
             raise Fault("Busy")
         asked = [peer for peer in self.me.peers if may_be_asked(peer, self.floors.of(key))]
+        waiting = Waiting(self.free_block(), key, asker)
+        self.next_block = block_after(waiting.block)
         if not asked and origin_of(key) not in self.roster.origins:
             return Reply(Served(Answer(502)), asker)
-        waiting = Waiting(self.free_block(), key, asker)
         self.waiting[waiting.block] = waiting
-        self.next_block = block_after(waiting.block)
         if not asked:
             return self.go_on(waiting, now)
         waiting.round = Round(asked)

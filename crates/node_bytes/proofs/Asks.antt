@@ -15,7 +15,7 @@ use Rattle.node_rules.specs.declared.reply.Reply.{Reply}
 use Rattle.node_rules.specs.declared.reply.StepFault.{StepFault}
 use Rattle.node_rules.specs.State.{Setting, Stepped, replies, serving}
 use Rattle.node_rules.specs.Known.{has_origin}
-use Rattle.node_rules.specs.Asks.{is_cached_only, begin_round, begin_with_read, ask_around, begin_ask, begin_if_free, not_held, by_copy, ask_comes}
+use Rattle.node_rules.specs.Asks.{is_cached_only, passing, begin_round, begin_with_read, ask_around, begin_ask, begin_if_free, not_held, by_copy, ask_comes}
 use Rattle.node_rules.specs.Asks.{ask_comes_to}
 use Rattle.node_rules.specs.Step.{open_step, step_if, step}
 use Rattle.node_rules.specs.Relation.{Steps}
@@ -41,7 +41,7 @@ module _ {X : Type 0} (g : Setting) where
       (begin_with_read g s asker ask block now mark).outcome
   unfolding begin_with_read
   with_read_fits s asker ask block now mark =
-      either (λ (r : Stepped X). Answers asker r.outcome) (has_origin g.roster ask.key) _ (replies s (serving None asker (Status 502)))
+      either (λ (r : Stepped X). Answers asker r.outcome) (has_origin g.roster ask.key) _ (replies (passing s block) (serving None asker (Status 502)))
       (begins asker _ _ refl refl) (serves asker (Status 502))
 
   ask_around_fits : (s : NodeState X) (asker : Option ℕ) (ask : Ask) (block now : ℕ) (mark : X) (round : RoundText) (peers : List Peer) →

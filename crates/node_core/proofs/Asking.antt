@@ -20,14 +20,14 @@ use Rattle.node_rules.specs.declared.reply.Begin.TheVariants as begin
 use Rattle.node_rules.specs.declared.reply.Reply.{Reply}
 use Rattle.node_rules.specs.Known.{has_origin}
 use Rattle.node_rules.specs.State.{Setting, Stepped, replies, refuses, is_outside, served_age, with_copies, beginning, serving}
-use Rattle.node_rules.specs.Asks.{taking, free_block, new_ask, begin_round, begin_with_read, begin_ask, begin_if_free, ask_around, is_cached_only, not_held}
+use Rattle.node_rules.specs.Asks.{taking, passing, free_block, new_ask, begin_round, begin_with_read, begin_ask, begin_if_free, ask_around, is_cached_only, not_held}
 use Rattle.node_rules.specs.Asks.{copy_for, by_copy, ask_comes_to, ask_comes, question_to}
 use Rattle.node_rules.specs.Fetching.{fetching, origin_ask}
 
 module _ {X : Type 0} (g : Setting) (s : NodeState X) (asker : Option ℕ) (ask : Ask) (block now : ℕ) (mark : X) where
   -- without an origin the request is answered at once
   pub read_without_origin : (roster : Tables) → roster ≡ g.roster → false ≡ has_origin roster ask.key → (next : NodeState X) (reply : Reply X) →
-      next ≡ s → reply ≡ serving None asker (Status 502) → begin_with_read g s asker ask block now mark ≡ replies next reply
+      next ≡ passing s block → reply ≡ serving None asker (Status 502) → begin_with_read g s asker ask block now mark ≡ replies next reply
   unfolding begin_with_read
   read_without_origin roster is_roster none next reply is_next is_reply =
       let none : has_origin g.roster ask.key ≡ false = rw (← is_roster) (sym none) in

@@ -158,7 +158,7 @@ impl<T: Copy + Drop, S: FloorStore> Node<T, S> {
     }
 
     /// Begins an origin read for a new request, with this block. If the roster has no such origin,
-    /// serves 502, and takes no block.
+    /// serves 502, and the request has ended.
     fn begin_with_read(
         &mut self,
         asker: Option<u8>,
@@ -176,6 +176,7 @@ impl<T: Copy + Drop, S: FloorStore> Node<T, S> {
             now mark) self.old.state result self.new.state }
     {
         if !has_origin(&self.roster, &ask.key) {
+            self.pass(block);
             return Ok(serves(self.alloc, None, asker, Served::Status(502)));
         }
         let asked = origin_ask(self.alloc, &ask)?;
@@ -187,6 +188,17 @@ impl<T: Copy + Drop, S: FloorStore> Node<T, S> {
         };
         self.wait(asker, ask, block, None, 1, 1, fetch)?;
         Ok(begins(self.alloc, Begin::Read { serial, ask: asked }))
+    }
+
+    /// Leaves the block of a request that has ended at once: it is free again, and the next one is
+    /// looked for behind it.
+    fn pass(&mut self, block: u32)
+        requires { IsBlock block }
+        ensures same { IsSameNode self.old self.new }
+        ensures state { self.new.state ≡ asks.passing self.old.state block }
+    {
+        let next = block_after(block);
+        self.next = next;
     }
 
     /// Begins a round for a new request, with this block and with queries in the roster's order.

@@ -53,7 +53,7 @@ use Rattle.node_rules.specs.State.{is_good, if_good}
 use Rattle.node_rules.specs.State.{good_copy}
 use Rattle.reuse_rules.specs.Freshness.{is_fresh}
 use Rattle.node_rules.specs.Fetching.{fetching, ask_peer, begin_read, read_origin, go_to, go_on}
-use Rattle.node_rules.specs.Asks.{new_ask, question_to, is_cached_only, begin_round, begin_with_read, ask_around, begin_ask, begin_if_free, not_held, by_copy}
+use Rattle.node_rules.specs.Asks.{block_after, new_ask, question_to, is_cached_only, begin_round, begin_with_read, ask_around, begin_ask, begin_if_free, not_held, by_copy}
 use Rattle.node_rules.specs.Asks.{copy_for, ask_comes_to, ask_comes}
 use Rattle.node_rules.specs.Arrivals.{new_copy, is_fetch, with_round, use_answer, try_on, is_gateway_fault, peer_gave, origin_gave, from_peer, peer_answer_to}
 use Rattle.node_rules.specs.Arrivals.{peer_answer, foreign_answer, from_origin, origin_answer_to, origin_answer, fails, failure_of, fetch_failed, round_moves}
@@ -245,7 +245,7 @@ module _ {X : Type 0} (g : Setting) (s : NodeState X) (e : Event X) (mark : X) w
       branches Does (has_origin g.roster ask.key) _ _
       (λ _. one_more _ (fetching (new_ask block asker ask None) 1 (AtOrigin (seen s.floors) now mark)) _ refl
       (inr record { stamp_seen = refl; mark_same = refl; begins = refl }) tt tt tt)
-      (λ _. stays s.pending s.next _ refl all_stay refl tt tt)
+      (λ _. stays s.pending (block_after block) _ refl all_stay refl tt tt)
 
   ask_around_does : (asker : Option ℕ) (ask : Ask) (block now : ℕ) (round : RoundText) (peers : List Peer) →
       Does (ask_around g s asker ask block now mark round peers)

@@ -38,7 +38,7 @@ use Rattle.node_rules.specs.declared.reply.StepFault.{StepFault}
 use Rattle.node_rules.specs.Known.{has_origin, is_known}
 use Rattle.node_rules.specs.State.{Setting, Stepped, inserted, changed, ended as without_block, changing, is_idle, is_of_block, fetch_serial}
 use Rattle.node_rules.specs.Fetching.{fetching, ask_peer, begin_read, read_origin, go_to, go_on}
-use Rattle.node_rules.specs.Asks.{IsBlock, new_ask, is_cached_only, free_block, taking, begin_round, begin_with_read, ask_around, begin_ask, begin_if_free}
+use Rattle.node_rules.specs.Asks.{IsBlock, new_ask, is_cached_only, free_block, taking, passing, begin_round, begin_with_read, ask_around, begin_ask, begin_if_free}
 use Rattle.node_rules.specs.Asks.{not_held, by_copy, ask_comes_to, ask_comes}
 use Rattle.node_rules.specs.Arrivals.{is_fetch, not_fetching, with_round, use_answer, try_on, is_gateway_fault, peer_gave, origin_gave, from_peer}
 use Rattle.node_rules.specs.Arrivals.{peer_answer_to, peer_answer, foreign_answer, from_origin, origin_answer_to, origin_answer, fails, failure_of}
@@ -355,7 +355,7 @@ module _ {X : Type 0} (g : Setting) (s : NodeState X) (e : Event X) (mark : X) (
   unfolding ask_around begin_round begin_with_read
   ask_around_holds asker ask block now free round [] =
       branches Holds (has_origin g.roster ask.key) _ _
-      (λ _. takes (fetching (new_ask block asker ask None) 1 (AtOrigin (seen s.floors) now mark)) free) (λ _. stays)
+      (λ _. takes (fetching (new_ask block asker ask None) 1 (AtOrigin (seen s.floors) now mark)) free) (λ _. same (passing s block) refl)
   ask_around_holds asker ask block now free round (peer ∷ peers) = takes (new_ask block asker ask (Some round)) free
 
   begin_if_free_holds : (asker : Option ℕ) (ask : Ask) (now : ℕ) (o : Option ℕ) → free_block s ≡ o → Holds (begin_if_free g s asker ask now mark o)

@@ -109,7 +109,8 @@ module _ {X : Type 0} (g : Setting) (s : NodeState X) (mark : X) where
   unfolding begin_with_read
   with_read_few room asker ask block now =
       branches Few (has_origin g.roster ask.key) _ _
-      (λ _. taken_few s (fetching (new_ask block asker ask None) 1 (AtOrigin (seen s.floors) now mark)) room) (λ _. few)
+      (λ _. taken_few s (fetching (new_ask block asker ask None) 1 (AtOrigin (seen s.floors) now mark)) room)
+      (λ _. record { most = λ is. is; next = λ is. after_is_block block })
 
   ask_around_few : length s.pending < 1024 → (asker : Option ℕ) (ask : Ask) (block now : ℕ) (round : RoundText) (peers : List Peer) →
       Few (ask_around g s asker ask block now mark round peers)

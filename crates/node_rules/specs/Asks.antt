@@ -73,6 +73,10 @@ free_block s = free_from s.pending s.next
 abbrev pub taking : {X : Type 0} → NodeState X → Pending X → NodeState X
 taking s p = adding (record s { next = block_after p.block }) p
 
+-- A new request has ended at once. Its block is free again, and the next one is looked for behind it. [Ask 4]
+abbrev pub passing : {X : Type 0} → NodeState X → ℕ → NodeState X
+passing s block = record s { next = block_after block }
+
 -- A new pending request, for which nothing has begun.
 abbrev pub new_ask : {X : Type 0} → ℕ → Option ℕ → Ask → Option RoundText → Pending X
 new_ask block asker ask round =
@@ -105,14 +109,14 @@ begin_round g s asker ask block round =
           Some (begin.Round (round_serial p));
     }
 
--- An origin read begins at once. If the roster has no such origin, 502 is served, and no block is
--- taken. [Ask 4, Fetch 2]
+-- An origin read begins at once. If the roster has no such origin, 502 is served, and the request has
+-- ended. [Ask 4, Fetch 2]
 unfoldable pub begin_with_read : {X : Type 0} → Setting → NodeState X → Option ℕ → Ask → ℕ → ℕ → X → Stepped X
 begin_with_read g s asker ask block now mark =
     let q = fetching (new_ask block asker ask None) 1 (AtOrigin (seen s.floors) now mark) in
     if has_origin g.roster ask.key
     then replies (taking s q) (beginning (begin.Read (fetch_serial q) (origin_ask ask)))
-    else replies s (serving None asker (Status 502))
+    else replies (passing s block) (serving None asker (Status 502))
 
 -- A round begins. If nobody is to be queried, the origin is read instead. [Ask 4]
 unfoldable pub ask_around : {X : Type 0} → Setting → NodeState X → Option ℕ → Ask → ℕ → ℕ → X → RoundText → List Peer →

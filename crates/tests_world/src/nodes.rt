@@ -3,7 +3,7 @@ use crate::failing::FailingFloors;
 use crate::setting::{Cleared, TWO, cleared_by, purge};
 use floor_rules::{FloorStore, Floors};
 use node_core::Node;
-use node_rules::{Begin, Event, Reply, StepFault};
+use node_rules::{Begin, Event, Reply, Served, StepFault};
 use roster::Roster;
 use std::alloc::Global;
 use std::fmt::Write;
@@ -85,6 +85,38 @@ fn flaw<S: FloorStore>(
         return Ok(Some("a fetch when closed"));
     }
     Ok(None)
+}
+
+/// A client's request that no copy may answer (RFC 9111, section 5.2.1.4).
+fn no_cache(alloc: Global, url: &str) -> Result<Event<()>, Fail> {
+    let mut ask = ask_of(alloc, url.as_bytes(), false, None)?;
+    ask.no_cache = true;
+    Ok(Event::Client { ask, now: 0 })
+}
+
+/// Whether a step serves 502, and begins nothing.
+fn serves_502<S: FloorStore>(node: &mut Node<(), S>, event: Event<()>) -> bool {
+    match node.step(event, ()) {
+        Ok(reply) => reply.begin.is_none() && is_502(&reply),
+        Err(_) => false,
+    }
+}
+
+fn is_502(reply: &Reply<()>) -> bool {
+    match &reply.serve {
+        Some(serve) => matches!(serve.served, Served::Status(502)),
+        None => false,
+    }
+}
+
+#[test]
+fn a_request_that_gets_502_at_once_takes_a_block(rt: HostRuntime) -> Result<(), Fail> {
+    let alloc = rt.alloc();
+    let mut held = opened(alloc, FailingFloors::new(alloc, 0))?;
+    assert!(rt; begins_read(&mut held.node, client(alloc, "http://o/a")?, 33));
+    assert!(rt; serves_502(&mut held.node, no_cache(alloc, "http://p/")?));
+    assert!(rt; begins_read(&mut held.node, no_cache(alloc, "http://o/b")?, 97));
+    Ok(())
 }
 
 fn failures_of(held: Held<FailingFloors>) -> u64 {

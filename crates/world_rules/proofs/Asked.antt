@@ -44,7 +44,7 @@ use Rattle.node_rules.specs.declared.raising.Raise.TheVariants.{Floor, Base}
 use Rattle.node_rules.specs.State.{Setting, Stepped, replies, refuses, quiet, is_outside, ending, changing, is_idle, is_of_block, is_good, if_good}
 use Rattle.node_rules.specs.State.{good_copy, served_age}
 use Rattle.node_rules.specs.Fetching.{fetching, ask_peer, begin_read, read_origin, go_to, go_on}
-use Rattle.node_rules.specs.Asks.{free_block, taking, new_ask, is_cached_only, begin_round, begin_with_read, ask_around, begin_ask, begin_if_free, not_held}
+use Rattle.node_rules.specs.Asks.{free_block, taking, passing, new_ask, is_cached_only, begin_round, begin_with_read, ask_around, begin_ask, begin_if_free, not_held}
 use Rattle.node_rules.specs.Asks.{by_copy, copy_for, ask_comes_to, ask_comes}
 use Rattle.node_rules.specs.Arrivals.{new_copy, not_fetching, with_round, use_answer, try_on, is_gateway_fault, peer_gave, origin_gave, from_peer}
 use Rattle.node_rules.specs.Arrivals.{peer_answer_to, peer_answer, foreign_answer, from_origin, origin_answer_to, origin_answer, fails, failure_of}
@@ -163,7 +163,7 @@ module _ {X : Type 0} (g : Setting) (s : NodeState X) (e : Event X) (mark : X) (
     ask_around_answers block round [] =
         branches Answers (has_origin g.roster ask.key) _ _
         (λ _. waits_too (fetching (new_ask block asker ask None) 1 (AtOrigin (seen s.floors) now mark)) _ (ap Some (read_block block)) asks tt)
-        (λ _. plainly s _ here (ask.key, (ask, asks, refl)))
+        (λ _. plainly (passing s block) _ here (ask.key, (ask, asks, refl)))
     ask_around_answers block round (p ∷ peers) = waits_too (new_ask block asker ask (Some round)) _ (ap Some (round_block block)) asks tt
 
     begin_if_free_answers : (o : Option ℕ) → Answers (begin_if_free g s asker ask now mark o)

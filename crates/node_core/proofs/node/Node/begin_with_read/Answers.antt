@@ -9,8 +9,8 @@ pub returns-then-not-has_origin-clause-leads : goal.returns-then-not-has_origin-
 returns-then-not-has_origin-clause-leads g c = λ key_of.
     let v = c.args.self.now in
     read_without_origin (setting_of v key_of) v.state c.args.asker c.args.ask c.args.block c.args.now c.args.mark _
-    (ap (λ (v : NodeText _ _). v.roster) c.self.view_is) c.if-not-has_origin.ensures _ _ refl
-    c.serves.ensures
+    (ap (λ (v : NodeText _ _). v.roster) c.self.view_is) c.if-not-has_origin.ensures _ _
+    c.pass.ensures.state c.serves.ensures
 
 pub returns-clause-leads : goal.returns-clause-leads
 returns-clause-leads g c = λ key_of.
