@@ -58,7 +58,6 @@ pub struct Unbegun {
 ///
 /// A contract sees whom it asks, its serial and its key, and whether this machine lacked something
 /// for it.
-#[derive(Drop)]
 pub struct Fetching {
     source: ResponseSource,
     serial: u32,
@@ -73,6 +72,25 @@ pub struct Fetching {
     tries: u32,
     tried: usize,
     until: Instant,
+}
+
+impl Drop for Fetching {
+    fn drop(self) {
+        let Fetching {
+            source: _,
+            serial: _,
+            key: _,
+            stream: _,
+            request: _,
+            sent: _,
+            response: _,
+            has_ended: _,
+            has_lacked: _,
+            tries: _,
+            tried: _,
+            until: _,
+        } = self;
+    }
 }
 
 impl Model for Fetching {
@@ -241,11 +259,25 @@ impl Fetching {
     pub fn into_fetched(self, answer: Option<Answer>) -> Fetched
         ensures { Ends self answer result }
     {
-        let is_unreached = self.sent == 0 && !self.has_lacked && answer.is_none();
+        let Fetching {
+            source,
+            serial,
+            key,
+            stream: _,
+            request: _,
+            sent,
+            response: _,
+            has_ended: _,
+            has_lacked,
+            tries: _,
+            tried: _,
+            until: _,
+        } = self;
+        let is_unreached = sent == 0 && !has_lacked && answer.is_none();
         Fetched {
-            source: self.source,
-            serial: self.serial,
-            key: self.key,
+            source,
+            serial,
+            key,
             answer,
             is_unreached,
         }

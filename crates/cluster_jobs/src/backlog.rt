@@ -20,7 +20,6 @@ const MOST_JOBS: usize = LANES * CAPACITY;
 
 /// The jobs that wait, first in, first out, with the history of all steps. A contract sees the
 /// steps, and whether the queue is ended.
-#[derive(Drop)]
 pub(crate) struct Backlog<Q: Run> {
     jobs: VecDeque<Job>,
     /// How many jobs of each lane wait, by the lane's place.
@@ -28,6 +27,18 @@ pub(crate) struct Backlog<Q: Run> {
     head: Head<Step, Q>,
     front: Front<Step, Q>,
     is_over: bool,
+}
+
+impl<Q: Run> Drop for Backlog<Q> {
+    fn drop(self) {
+        let Backlog {
+            jobs: _,
+            counts: _,
+            head: _,
+            front: _,
+            is_over: _,
+        } = self;
+    }
 }
 
 impl<Q: Run> Model for Backlog<Q> {

@@ -62,7 +62,6 @@ fn may_be_due_after(answer: &Result<MasterAnswer, MasterFault>, was: bool) -> bo
 
 /// A master's book, the entries of the pages that were filed, and whether a CLR may be due. Where
 /// none may be due, none is.
-#[derive(Drop)]
 pub(crate) struct LockedBook<S: PurgeStore> {
     pub(crate) alloc: Global,
     /// The master, and the open page of its calls.
@@ -79,6 +78,21 @@ pub(crate) struct LockedBook<S: PurgeStore> {
     pub(crate) may_be_due: bool,
     /// Where each call draws its place.
     pub(crate) places: Places,
+}
+
+impl<S: PurgeStore + Drop> Drop for LockedBook<S> {
+    fn drop(self) {
+        let LockedBook {
+            alloc: _,
+            book: _,
+            weight: _,
+            kept: _,
+            kept_weight: _,
+            to_keep: _,
+            may_be_due: _,
+            places: _,
+        } = self;
+    }
 }
 
 impl<S: PurgeStore> Model for LockedBook<S> {
@@ -256,6 +270,23 @@ impl<S: PurgeStore> LockedBook<S> {
         }
         self.kept_weight = 0;
         replace(&mut self.kept, Vec::new(self.alloc))
+    }
+
+    /// The book, with the entries of the pages that are kept, which stand before its own.
+    pub(crate) fn into_book_and_kept(self) -> (MasterBook<S>, Vec<MasterEntry>)
+        ensures { (result.0 ≡ self.book) × (result.1.items ≡ self.kept) }
+    {
+        let LockedBook {
+            alloc: _,
+            book,
+            weight: _,
+            kept,
+            kept_weight: _,
+            to_keep: _,
+            may_be_due: _,
+            places: _,
+        } = self;
+        (book, kept)
     }
 
     /// Whether entries are dropped: what is kept does not go back to the first call.

@@ -54,7 +54,6 @@ fn bound<N: Net>(net: &N, address: Address) -> Result<UdpSocket, MasterStartFaul
 }
 
 /// Reads the master's socket, and sends what is due. One thread has it.
-#[derive(Drop)]
 pub struct MasterLoop {
     alloc: Global,
     poll: Poll,
@@ -62,6 +61,19 @@ pub struct MasterLoop {
     sender: MasterSender,
     buffer: Vec<u8>,
     is_ready: bool,
+}
+
+impl Drop for MasterLoop {
+    fn drop(self) {
+        let MasterLoop {
+            alloc: _,
+            poll: _,
+            events: _,
+            sender: _,
+            buffer: _,
+            is_ready: _,
+        } = self;
+    }
 }
 
 impl MasterLoop {

@@ -54,7 +54,6 @@ pub(crate) fn moment<C: Clock>(clock: &C) -> io::Result<u64> {
 }
 
 /// What the master's loop and its senders share.
-#[derive(Drop)]
 pub(crate) struct MasterShared {
     /// The master's socket.
     pub(crate) socket: UdpSocket,
@@ -62,6 +61,16 @@ pub(crate) struct MasterShared {
     pub(crate) waker: Waker,
     /// When CLRs are sent again.
     pub(crate) schedule: Mutex<Schedule>,
+}
+
+impl Drop for MasterShared {
+    fn drop(self) {
+        let MasterShared {
+            socket: _,
+            waker: _,
+            schedule: _,
+        } = self;
+    }
 }
 
 /// Issues purges, admits members, and sends their CLRs on the master's socket, from any thread.

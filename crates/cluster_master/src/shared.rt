@@ -110,8 +110,7 @@ impl<S: PurgeStore> SharedMaster<S> {
     /// Gives the book back, with the entries of the pages that are kept, which stand before its
     /// own.
     pub fn close(self) -> (MasterBook<S>, Vec<MasterEntry>) {
-        let locked_book = self.locked_book.into_inner();
-        (locked_book.book, locked_book.kept)
+        self.locked_book.into_inner().into_book_and_kept()
     }
 }
 

@@ -12,12 +12,20 @@ use purge_master::MasterEntry;
 use std::alloc::{AllocError, Global};
 
 /// What the members and the master of a hierarchy did, from the start on.
-#[derive(Drop)]
 pub struct RecordedRun {
     /// The records of the members, those of one member in their order.
     pub records: Vec<Record>,
     /// The master's calls, in their order.
     pub entries: Vec<MasterEntry>,
+}
+
+impl Drop for RecordedRun {
+    fn drop(self) {
+        let RecordedRun {
+            records: _,
+            entries: _,
+        } = self;
+    }
 }
 
 /// What is kept of a run so far; none, where some of it is lost.

@@ -14,7 +14,6 @@ use std::thread::{self, JoinHandle, Threads};
 use std::time::Clock;
 
 /// A master whose thread runs.
-#[derive(Drop)]
 pub(crate) struct MasterThread<S: PurgeStore> {
     /// The master, which its thread and the lines share.
     pub(crate) master: Arc<SharedMaster<S>, Global>,
@@ -22,6 +21,17 @@ pub(crate) struct MasterThread<S: PurgeStore> {
     pub(crate) sender: MasterSender,
     is_stopped: Arc<AtomicBool, Global>,
     thread: JoinHandle<()>,
+}
+
+impl<S: PurgeStore + Drop> Drop for MasterThread<S> {
+    fn drop(self) {
+        let MasterThread {
+            master: _,
+            sender: _,
+            is_stopped: _,
+            thread: _,
+        } = self;
+    }
 }
 
 impl<S: PurgeStore> MasterThread<S> {
@@ -35,12 +45,22 @@ impl<S: PurgeStore> MasterThread<S> {
 }
 
 /// What the master's thread has.
-#[derive(Drop)]
 struct Polling<S: PurgeStore> {
     poller: MasterLoop,
     roster: Roster,
     master: Arc<SharedMaster<S>, Global>,
     is_stopped: Arc<AtomicBool, Global>,
+}
+
+impl<S: PurgeStore + Drop> Drop for Polling<S> {
+    fn drop(self) {
+        let Polling {
+            poller: _,
+            roster: _,
+            master: _,
+            is_stopped: _,
+        } = self;
+    }
 }
 
 impl<S: PurgeStore + Drop> Polling<S> {
@@ -128,6 +148,12 @@ impl<S: PurgeStore + Drop + Send + 'static> MasterThread<S> {
     /// Tells the thread to stop, and waits for its end.
     pub(crate) fn stop<R: Threads>(self, rt: &R) {
         self.is_stopped.store(true, Ordering::SeqCst);
-        self.thread.join(rt);
+        let MasterThread {
+            master: _,
+            sender: _,
+            is_stopped: _,
+            thread,
+        } = self;
+        thread.join(rt);
     }
 }

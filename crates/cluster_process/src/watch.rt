@@ -23,7 +23,6 @@ const STEP: u64 = 10;
 const STEPS: u32 = 100;
 
 /// A member that is watched.
-#[derive(Drop)]
 struct Watched {
     id: u8,
     closing: Arc<Closing, Global>,
@@ -36,8 +35,20 @@ struct Watched {
     looks: u32,
 }
 
+impl Drop for Watched {
+    fn drop(self) {
+        let Watched {
+            id: _,
+            closing: _,
+            was_closed: _,
+            is_told: _,
+            has_lacked: _,
+            looks: _,
+        } = self;
+    }
+}
+
 /// What the thread has.
-#[derive(Drop)]
 struct Watching {
     members: Vec<Watched>,
     /// Whether the input was at its end from the start, and that was not said yet.
@@ -46,14 +57,35 @@ struct Watching {
     is_over: Arc<AtomicBool, Global>,
 }
 
+impl Drop for Watching {
+    fn drop(self) {
+        let Watching {
+            members: _,
+            has_no_line: _,
+            is_stopped: _,
+            is_over: _,
+        } = self;
+    }
+}
+
 /// A thread that watches the members.
-#[derive(Drop)]
 pub(crate) struct Watch {
     has_no_line: Arc<AtomicBool, Global>,
     is_stopped: Arc<AtomicBool, Global>,
     /// Whether the thread writes no more.
     is_over: Arc<AtomicBool, Global>,
     thread: JoinHandle<()>,
+}
+
+impl Drop for Watch {
+    fn drop(self) {
+        let Watch {
+            has_no_line: _,
+            is_stopped: _,
+            is_over: _,
+            thread: _,
+        } = self;
+    }
 }
 
 /// The name of the cause.
@@ -191,7 +223,13 @@ impl Watch {
     pub(crate) fn stop<R: Threads + Wait + Clock>(self, rt: &R) {
         self.is_stopped.store(true, Ordering::SeqCst);
         if self.is_soon_over(rt) {
-            self.thread.join(rt);
+            let Watch {
+                has_no_line: _,
+                is_stopped: _,
+                is_over: _,
+                thread,
+            } = self;
+            thread.join(rt);
         }
     }
 }

@@ -31,7 +31,6 @@ pub struct Numbered {
 }
 
 /// What the threads of a node share beside the node itself.
-#[derive(Drop)]
 pub struct Station<G: Drop> {
     /// The clients that wait, the answers that came before their clients, the rounds that wait, and
     /// the steps that are owed.
@@ -60,6 +59,25 @@ pub struct Station<G: Drop> {
     /// What is told of each read of an origin.
     pub(crate) gate: Arc<G, Global>,
     pub(crate) ghost has_node: { is_member roster id ≡ true },
+}
+
+impl<G: Drop> Drop for Station<G> {
+    fn drop(self) {
+        let Station {
+            tables: _,
+            next: _,
+            peers: _,
+            inbox: _,
+            alloc: _,
+            roster: _,
+            id: _,
+            senders: _,
+            closing: _,
+            is_stopped: _,
+            refused: _,
+            gate: _,
+        } = self;
+    }
 }
 
 /// The time now, in seconds since 1970; 0 where the system does not tell it.

@@ -21,13 +21,24 @@ const LONGEST_DATAGRAM: usize = 65_536;
 const MOST_DATAGRAMS: usize = 256;
 
 /// Reads the datagrams of a node.
-#[derive(Drop)]
 pub(crate) struct Datagrams {
     alloc: Global,
     sockets: Arc<Sockets, Global>,
     buffer: Vec<u8>,
     icp_is_ready: bool,
     htcp_is_ready: bool,
+}
+
+impl Drop for Datagrams {
+    fn drop(self) {
+        let Datagrams {
+            alloc: _,
+            sockets: _,
+            buffer: _,
+            icp_is_ready: _,
+            htcp_is_ready: _,
+        } = self;
+    }
 }
 
 impl Datagrams {

@@ -32,7 +32,6 @@ struct Placed {
 
 /// The responses under way, each under a key. An address gets one more of their 4,096 places only
 /// while more are free than it has, so one address leaves half of the places to others.
-#[derive(Drop)]
 pub(crate) struct Deliveries {
     under_way: Slab<Placed>,
     per_address: PerAddress,
@@ -46,6 +45,22 @@ pub(crate) struct Deliveries {
     patience: Duration,
     /// How many connections were told 503 since this was last taken.
     refused: u64,
+}
+
+impl Drop for Deliveries {
+    fn drop(self) {
+        let Deliveries {
+            under_way: _,
+            per_address: _,
+            lingering: _,
+            ready: _,
+            again: _,
+            kept: _,
+            first_token: _,
+            patience: _,
+            refused: _,
+        } = self;
+    }
 }
 
 impl Deliveries {

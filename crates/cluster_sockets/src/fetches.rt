@@ -50,7 +50,6 @@ pub(crate) fn gets_place(most: u64, free: u64, own: u64) -> bool
 /// The fetches of a node. Each address has a queue of its own, so one that does not answer holds up
 /// its own fetches alone. Of the 1,024 places an address gets one more only while more are free
 /// than it has. The queues take turns.
-#[derive(Drop)]
 pub(crate) struct Fetches {
     alloc: Global,
     under_way: Slab<Placed>,
@@ -71,6 +70,25 @@ pub(crate) struct Fetches {
     most_of_address: u64,
     /// How long a fetch may take, from the moment at which it begins to connect.
     patience: Duration,
+}
+
+impl Drop for Fetches {
+    fn drop(self) {
+        let Fetches {
+            alloc: _,
+            under_way: _,
+            queues: _,
+            ready: _,
+            may_begin: _,
+            turn: _,
+            looked: _,
+            combed: _,
+            first_token: _,
+            has_lacked: _,
+            most_of_address: _,
+            patience: _,
+        } = self;
+    }
 }
 
 impl Fetches {

@@ -25,7 +25,6 @@ pub(crate) enum Reading {
 }
 
 /// A connection, and what was read of it.
-#[derive(Drop)]
 pub(crate) struct HeadReading {
     number: u64,
     ip: u32,
@@ -33,6 +32,19 @@ pub(crate) struct HeadReading {
     octets: Vec<u8>,
     end: HeadEnd,
     since: Instant,
+}
+
+impl Drop for HeadReading {
+    fn drop(self) {
+        let HeadReading {
+            number: _,
+            ip: _,
+            stream: _,
+            octets: _,
+            end: _,
+            since: _,
+        } = self;
+    }
 }
 
 impl HeadReading {
@@ -127,7 +139,15 @@ impl HeadReading {
 
     /// The connection alone.
     pub(crate) fn into_stream(self) -> TcpStream {
-        self.stream
+        let HeadReading {
+            number: _,
+            ip: _,
+            stream,
+            octets: _,
+            end: _,
+            since: _,
+        } = self;
+        stream
     }
 
     /// Makes it a job for a worker, which reads a request of HTTP/1.2 to HTTP/1.9 as one of

@@ -16,10 +16,18 @@ pub enum Errand {
 }
 
 /// Where threads leave errands to the event loop, first in, first out.
-#[derive(Drop)]
 pub struct Inbox {
     errands: Mutex<Queue<Errand>>,
     waker: Waker,
+}
+
+impl Drop for Inbox {
+    fn drop(self) {
+        let Inbox {
+            errands: _,
+            waker: _,
+        } = self;
+    }
 }
 
 impl Inbox {

@@ -15,7 +15,7 @@ use crate::streams::Streams;
 use cluster_fetch::Fetched;
 use cluster_jobs::{Job, Jobs, Pass, Run};
 use mio::net::TcpListener;
-use mio::{Events, Interest, Poll, Token, Waker};
+use mio::{Events, Interest, Poll, Registry, Token, Waker};
 use std::alloc::{AllocError, Global};
 use std::net::Net;
 use std::sync::{Arc, Wait};
@@ -64,7 +64,6 @@ const LAST: u64 = 5;
 const MOST_LAST_POLLS: usize = 100_000;
 
 /// The event loop of a node. One thread has it.
-#[derive(Drop)]
 pub struct NodeLoop {
     poll: Poll,
     events: Events,
@@ -85,6 +84,58 @@ pub struct NodeLoop {
     ghost named: { IsTrue (names_cache via.items) },
 }
 
+impl Drop for NodeLoop {
+    fn drop(self) {
+        let NodeLoop {
+            poll: _,
+            events: _,
+            datagrams: _,
+            streams: _,
+            inbox: _,
+            deliveries: _,
+            fetches: _,
+            owed: _,
+            has_errands: _,
+            looked: _,
+            via: _,
+            wait: _,
+            has_more: _,
+        } = self;
+    }
+}
+
+/// Opens the UDP sockets of a member, for ICP and for HTCP.
+fn datagrams_at<N: Net>(
+    rt: &N,
+    alloc: Global,
+    registry: &Registry,
+    cache: &Cache,
+) -> Result<(Datagrams, Senders), LoopFault> {
+    let sockets = shared(alloc, Sockets::open(rt, registry, cache, (ICP, HTCP))?)?;
+    let senders = Senders::of(Arc::try_clone(&sockets)?);
+    Ok((Datagrams::new(alloc, sockets)?, senders))
+}
+
+/// Opens the listener of a member for HTTP.
+fn streams_at<N: Net>(
+    rt: &N,
+    alloc: Global,
+    registry: &Registry,
+    cache: &Cache,
+    limits: Limits,
+    now: Instant,
+) -> Result<Streams, LoopFault> {
+    let mut listener = TcpListener::bind(rt, cache.http.socket())?;
+    registry.register(&mut listener, LISTENER, Interest::READABLE)?;
+    let most_of_address = u32::try_from(limits.clients_per_address).unwrap_or(u32::MAX);
+    Ok(Streams::new(alloc, listener, most_of_address, now)?)
+}
+
+/// An inbox, which wakes the poll.
+fn inbox_at(alloc: Global, registry: &Registry) -> Result<Arc<Inbox, Global>, LoopFault> {
+    Ok(shared(alloc, Inbox::new(alloc, Waker::new(registry, WAKER)?))?)
+}
+
 impl NodeLoop {
     /// Opens the sockets of a member at its addresses: UDP for ICP and for HTCP, and a listener for
     /// HTTP. `via` is its name, as it stands in requests and responses. `limits` has its times and
@@ -100,24 +151,21 @@ impl NodeLoop {
     ) -> Result<(NodeLoop, Senders), LoopFault>
         requires { IsTrue (names_cache via.now) }
     {
-        let poll = Poll::new(rt)?;
-        let sockets = Sockets::open(rt, poll.registry(), cache, (ICP, HTCP))?;
-        let mut listener = TcpListener::bind(rt, cache.http.socket())?;
-        poll.registry()
-            .register(&mut listener, LISTENER, Interest::READABLE)?;
-        let inbox = Inbox::new(alloc, Waker::new(poll.registry(), WAKER)?);
-        let sockets = shared(alloc, sockets)?;
-        let senders = Senders::of(Arc::try_clone(&sockets)?);
         let now = Instant::now(rt)?;
+        let poll = Poll::new(rt)?;
+        let (datagrams, senders) = datagrams_at(rt, alloc, poll.registry(), cache)?;
+        let streams = streams_at(rt, alloc, poll.registry(), cache, limits, now)?;
+        let inbox = inbox_at(alloc, poll.registry())?;
         let patience = Duration::from_millis(limits.answer_wait);
-        let most_of_address = u32::try_from(limits.clients_per_address).unwrap_or(u32::MAX);
+        let deliveries = Deliveries::new(alloc, DELIVERIES, patience)?;
+        let events = Events::with_capacity(alloc, MOST_EVENTS)?;
         let opened = NodeLoop {
             poll,
-            events: Events::with_capacity(alloc, MOST_EVENTS)?,
-            datagrams: Datagrams::new(alloc, sockets)?,
-            streams: Streams::new(alloc, listener, most_of_address, now)?,
-            inbox: shared(alloc, inbox)?,
-            deliveries: Deliveries::new(alloc, DELIVERIES, patience)?,
+            events,
+            datagrams,
+            streams,
+            inbox,
+            deliveries,
             fetches: Fetches::new(alloc, FETCHES, limits),
             owed: None,
             has_errands: false,

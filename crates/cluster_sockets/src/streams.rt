@@ -34,7 +34,6 @@ const MOST_LATE: usize = 64;
 const BETWEEN_LOOKS: u128 = 100;
 
 /// Accepts a node's connections, and keeps those whose requests have not come.
-#[derive(Drop)]
 pub(crate) struct Streams {
     alloc: Global,
     listener: TcpListener,
@@ -47,6 +46,24 @@ pub(crate) struct Streams {
     looked: Instant,
     refused: VecDeque<(TcpStream, bool)>,
     has_lacked: bool,
+}
+
+impl Drop for Streams {
+    fn drop(self) {
+        let Streams {
+            alloc: _,
+            listener: _,
+            is_ready: _,
+            heads: _,
+            per_address: _,
+            most_of_address: _,
+            came: _,
+            number: _,
+            looked: _,
+            refused: _,
+            has_lacked: _,
+        } = self;
+    }
 }
 
 impl Streams {

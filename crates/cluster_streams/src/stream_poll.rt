@@ -16,12 +16,21 @@ pub const PATIENCE: u64 = 5;
 
 /// What one thread polls for its streams, one stream at a time, and the buffer where it keeps what
 /// is written to one of them.
-#[derive(Drop)]
 pub struct StreamPoll {
     poll: Poll,
     events: Events,
     /// What is written and not sent yet, 16,384 octets at most.
     pub(crate) kept: Vec<u8>,
+}
+
+impl Drop for StreamPoll {
+    fn drop(self) {
+        let StreamPoll {
+            poll: _,
+            events: _,
+            kept: _,
+        } = self;
+    }
 }
 
 impl StreamPoll {

@@ -16,10 +16,18 @@ pub const MOST_WAITING: usize = 1056;
 /// block of serials of its request.
 ///
 /// A contract sees both in the order of their blocks, at most 1,056 of each.
-#[derive(Drop)]
 pub struct WaitingClients<C, A> {
     clients: BTreeMap<u32, C>,
     answers: BTreeMap<u32, A>,
+}
+
+impl<C: Drop, A: Drop> Drop for WaitingClients<C, A> {
+    fn drop(self) {
+        let WaitingClients {
+            clients: _,
+            answers: _,
+        } = self;
+    }
 }
 
 impl<C, A> Model for WaitingClients<C, A> {

@@ -20,13 +20,24 @@ pub trait Waits {
 /// The waiting clients with the early answers, the waiting rounds, the peers that each round waits
 /// for, the deadlines of requests, and the steps that are owed, each under a lock of its own. No
 /// function holds two locks at once.
-#[derive(Drop)]
 pub struct WaitTables<C: Drop, A: Drop> {
     clients: Mutex<WaitingClients<C, A>>,
     rounds: Mutex<Rounds>,
     outstanding: Mutex<Outstanding>,
     asks: Mutex<Rounds>,
     owed: Mutex<OwedSteps>,
+}
+
+impl<C: Drop, A: Drop> Drop for WaitTables<C, A> {
+    fn drop(self) {
+        let WaitTables {
+            clients: _,
+            rounds: _,
+            outstanding: _,
+            asks: _,
+            owed: _,
+        } = self;
+    }
 }
 
 impl<C: Drop, A: Drop> WaitTables<C, A> {

@@ -55,7 +55,6 @@ impl Model for PeerAsk {
 }
 
 /// A response that a member sent to a member.
-#[derive(Drop)]
 pub struct PeerAnswer {
     /// The sender's id.
     pub sender: u8,
@@ -69,6 +68,19 @@ pub struct PeerAnswer {
     pub answer: Answer,
     /// The mark of the copy in it; 0 if it holds none.
     pub mark: u64,
+}
+
+impl Drop for PeerAnswer {
+    fn drop(self) {
+        let PeerAnswer {
+            sender: _,
+            receiver: _,
+            serial: _,
+            key: _,
+            answer: _,
+            mark: _,
+        } = self;
+    }
 }
 
 impl Model for PeerAnswer {

@@ -11,7 +11,6 @@ use roster::Roster;
 use std::alloc::Global;
 
 /// The parts of a world.
-#[derive(Drop)]
 pub(crate) struct Parts {
     pub alloc: Global,
     /// The members, their addresses and peers, and the master.
@@ -32,6 +31,23 @@ pub(crate) struct Parts {
     pub waiting: Vec<Waiting>,
     /// The place of the next event, from 1; 0 if no place is left.
     pub place: u64,
+}
+
+impl Drop for Parts {
+    fn drop(self) {
+        let Parts {
+            alloc: _,
+            roster: _,
+            nodes: _,
+            master: _,
+            clock: _,
+            datagrams: _,
+            asks: _,
+            answers: _,
+            waiting: _,
+            place: _,
+        } = self;
+    }
 }
 
 /// Returns the item with this number, counted from 1.

@@ -25,7 +25,7 @@ pub const NOT_IMPLEMENTED: u8 = 2;
 pub const NOT_ALLOWED: u8 = 5;
 
 /// Which entity a request is about (RFC 2756, "SPECIFIER").
-#[derive(Debug, PartialEq, Eq, Drop)]
+#[derive(Debug, PartialEq, Eq)]
 pub struct Specifier {
     /// METHOD: the method of an HTTP request, such as `GET`.
     pub method: Octets,
@@ -35,6 +35,17 @@ pub struct Specifier {
     pub version: Octets,
     /// REQ-HDRS: header lines of a request, each ended by CR LF. `decode` takes any octets.
     pub request_headers: Octets,
+}
+
+impl Drop for Specifier {
+    fn drop(self) {
+        let Specifier {
+            method: _,
+            uri: _,
+            version: _,
+            request_headers: _,
+        } = self;
+    }
 }
 
 impl Specifier {
@@ -52,7 +63,7 @@ impl Specifier {
 }
 
 /// What is known of an entity (RFC 2756, "DETAIL").
-#[derive(Debug, PartialEq, Eq, Drop)]
+#[derive(Debug, PartialEq, Eq)]
 pub struct Detail {
     /// RESP-HDRS: header lines of the response.
     pub response_headers: Octets,
@@ -60,6 +71,16 @@ pub struct Detail {
     pub entity_headers: Octets,
     /// CACHE-HDRS: header lines of the cache that responds.
     pub cache_headers: Octets,
+}
+
+impl Drop for Detail {
+    fn drop(self) {
+        let Detail {
+            response_headers: _,
+            entity_headers: _,
+            cache_headers: _,
+        } = self;
+    }
 }
 
 impl Detail {

@@ -28,13 +28,24 @@ pub const LONGEST_BODY: usize = 65_536;
 ///
 /// The invariant of the type is `is_writable` of `specs/Answer`; the laws of `peer_fetch` rest on
 /// it. A contract sees the status, fields, age, stamp and body (`AnswerText`).
-#[derive(Drop)]
 pub struct Answer {
     status: u16,
     fields: Fields,
     age: Option<u32>,
     stamp: Option<u32>,
     body: Body,
+}
+
+impl Drop for Answer {
+    fn drop(self) {
+        let Answer {
+            status: _,
+            fields: _,
+            age: _,
+            stamp: _,
+            body: _,
+        } = self;
+    }
 }
 
 impl Model for Answer {

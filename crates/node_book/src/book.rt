@@ -23,7 +23,6 @@ use thiserror::Error;
 pub const MOST_ENTRIES: usize = 4096;
 
 /// A step of a node, with its outcome.
-#[derive(Drop)]
 pub struct NodeEntry {
     /// The seat that called, a number of the caller's.
     pub seat: u8,
@@ -33,6 +32,32 @@ pub struct NodeEntry {
     pub event: Event<()>,
     /// The reply of the step, or its fault.
     pub outcome: Result<Reply<()>, StepFault>,
+}
+
+impl Drop for NodeEntry {
+    fn drop(self) {
+        let NodeEntry {
+            seat: _,
+            place: _,
+            event: _,
+            outcome: _,
+        } = self;
+    }
+}
+
+impl NodeEntry {
+    /// The outcome alone.
+    pub(crate) fn into_outcome(self) -> Result<Reply<()>, StepFault>
+        ensures { result ≡ self.outcome }
+    {
+        let NodeEntry {
+            seat: _,
+            place: _,
+            event: _,
+            outcome,
+        } = self;
+        outcome
+    }
 }
 
 /// Why an event was not applied, or its reply was not returned.
@@ -58,13 +83,24 @@ pub enum BookFault {
 ///
 /// A contract sees the node, its state when the book was opened, the entries, and how many of them
 /// are on pages that were filed.
-#[derive(Drop)]
 pub struct NodeBook<S: FloorStore> {
     alloc: Global,
     node: Node<(), S>,
     opening: NodeState<()>,
     entries: Vec<NodeEntry>,
     filed: usize,
+}
+
+impl<S: FloorStore + Drop> Drop for NodeBook<S> {
+    fn drop(self) {
+        let NodeBook {
+            alloc: _,
+            node: _,
+            opening: _,
+            entries: _,
+            filed: _,
+        } = self;
+    }
 }
 
 impl<S: FloorStore> Model for NodeBook<S> {
@@ -231,7 +267,14 @@ impl<S: FloorStore> NodeBook<S> {
         ensures node { result ≡ self.node }
         ensures replayed { IsReplayed self }
     {
-        self.node
+        let NodeBook {
+            alloc: _,
+            node,
+            opening: _,
+            entries: _,
+            filed: _,
+        } = self;
+        node
     }
 
     /// The node, without its book, and the outcome of the last entry; None if there is no entry. It
@@ -249,7 +292,7 @@ impl<S: FloorStore> NodeBook<S> {
             filed: _,
         } = self;
         match entries.pop() {
-            Some(entry) => (node, Some(entry.outcome)),
+            Some(entry) => (node, Some(entry.into_outcome())),
             None => (node, None),
         }
     }

@@ -4,7 +4,6 @@ use node_rules::NodeState;
 use roster::Listed;
 
 /// The steps of a node from one of its states to another.
-#[derive(Drop)]
 pub struct Record {
     /// The node's id.
     pub node: u8,
@@ -14,4 +13,15 @@ pub struct Record {
     pub entries: Listed<NodeEntry>,
     /// Its state after the last entry.
     pub closing: NodeState<()>,
+}
+
+impl Drop for Record {
+    fn drop(self) {
+        let Record {
+            node: _,
+            opening: _,
+            entries: _,
+            closing: _,
+        } = self;
+    }
 }

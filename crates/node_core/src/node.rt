@@ -17,7 +17,6 @@ use url_key::Key;
 /// A node of the hierarchy, over a store of its floors. `T` is the type of the tags of its copies.
 ///
 /// A contract sees its roster, its id, its state and the store.
-#[derive(Drop)]
 pub struct Node<T, S: FloorStore> {
     pub(crate) alloc: Global,
     pub(crate) roster: Roster,
@@ -28,6 +27,42 @@ pub struct Node<T, S: FloorStore> {
     pub(crate) pending: PendingList<T>,
     pub(crate) next: u32,
     pub(crate) closed: bool,
+}
+
+impl<T: Drop, S: FloorStore + Drop> Drop for Node<T, S> {
+    fn drop(self) {
+        let Node {
+            alloc: _,
+            roster: _,
+            id: _,
+            store: _,
+            floors: _,
+            copies: _,
+            pending: _,
+            next: _,
+            closed: _,
+        } = self;
+    }
+}
+
+impl<T: Drop, S: FloorStore> Node<T, S> {
+    /// The store alone.
+    pub(crate) fn into_store(self) -> S
+        ensures { result ≡ self.store }
+    {
+        let Node {
+            alloc: _,
+            roster: _,
+            id: _,
+            store,
+            floors: _,
+            copies: _,
+            pending: _,
+            next: _,
+            closed: _,
+        } = self;
+        store
+    }
 }
 
 impl<T, S: FloorStore> Model for Node<T, S> {

@@ -166,6 +166,6 @@ impl<T: Drop, S: FloorStore> Node<T, S> {
     pub fn into_floors(self) -> S
         ensures { result ≡ self.store }
     {
-        self.store
+        self.into_store()
     }
 }

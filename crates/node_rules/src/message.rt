@@ -46,9 +46,15 @@ impl Message {
 /// that repeats its number and URL, or its opcode, can be encoded.
 ///
 /// A contract sees the message.
-#[derive(Debug, Drop)]
+#[derive(Debug)]
 pub struct Received {
     message: Message,
+}
+
+impl Drop for Received {
+    fn drop(self) {
+        let Received { message: _ } = self;
+    }
 }
 
 impl Model for Received {
@@ -85,16 +91,23 @@ impl Received {
         ensures value { result ≡ self }
         ensures answerable { IsAnswerable self }
     {
-        self.message
+        let Received { message } = self;
+        message
     }
 }
 
 /// A message to send, which can be encoded.
 ///
 /// A contract sees the message.
-#[derive(Debug, Drop)]
+#[derive(Debug)]
 pub struct Sent {
     message: Message,
+}
+
+impl Drop for Sent {
+    fn drop(self) {
+        let Sent { message: _ } = self;
+    }
 }
 
 impl Model for Sent {

@@ -23,7 +23,6 @@ pub enum Served<T> {
 }
 
 /// What is served, and to whom.
-#[derive(Drop)]
 pub struct Serve<T> {
     /// The block of the pending request that is served; none for the request of this event.
     pub waiter: Option<u32>,
@@ -31,6 +30,16 @@ pub struct Serve<T> {
     pub asker: Option<u8>,
     /// What is served.
     pub served: Served<T>,
+}
+
+impl<T: Drop> Drop for Serve<T> {
+    fn drop(self) {
+        let Serve {
+            waiter: _,
+            asker: _,
+            served: _,
+        } = self;
+    }
 }
 
 /// What a step begins. The caller carries it out, and hands in its end as an event.

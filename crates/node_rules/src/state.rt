@@ -1,3 +1,5 @@
+ghost use Rattle.std.specs.Prelude.{◌≡◌};
+
 use floor_rules::Floors;
 use http_messages::Ask;
 use object_store::WebCopy;
@@ -35,7 +37,6 @@ pub enum Fetch<T> {
 /// Block b, from 1 to 134,217,727, has the serials 32b to 32b + 31. The request's round has serial
 /// 32b, which is also its ICP request number and its HTCP TRANS-ID. Its fetches have 32b + 1, 32b +
 /// 2 and so on.
-#[derive(Drop)]
 pub struct Pending<T> {
     /// The block of its serials.
     pub block: u32,
@@ -55,8 +56,22 @@ pub struct Pending<T> {
     pub fetch: Fetch<T>,
 }
 
+impl<T: Drop> Drop for Pending<T> {
+    fn drop(self) {
+        let Pending {
+            block: _,
+            asker: _,
+            ask: _,
+            round: _,
+            tried: _,
+            fetches: _,
+            reads: _,
+            fetch: _,
+        } = self;
+    }
+}
+
 /// The state of a node. [Node 1]
-#[derive(Drop)]
 pub struct NodeState<T> {
     /// The floors: the greatest purge number of each key.
     pub floors: Floors,
@@ -69,4 +84,32 @@ pub struct NodeState<T> {
     pub next: u32,
     /// Whether the node is closed. A closed node answers every event with `StepFault::Closed`.
     pub closed: bool,
+}
+
+impl<T: Drop> Drop for NodeState<T> {
+    fn drop(self) {
+        let NodeState {
+            floors: _,
+            copies: _,
+            pending: _,
+            next: _,
+            closed: _,
+        } = self;
+    }
+}
+
+impl<T: Drop> NodeState<T> {
+    /// The copies alone.
+    pub fn into_copies(self) -> Listed<WebCopy<T>>
+        ensures { result ≡ self.copies }
+    {
+        let NodeState {
+            floors: _,
+            copies,
+            pending: _,
+            next: _,
+            closed: _,
+        } = self;
+        copies
+    }
 }

@@ -28,7 +28,6 @@ const MOST_OCTETS: u64 = 4_194_304;
 /// A node with its history, and with the record that is kept for a check.
 ///
 /// A contract sees all but the counter of places.
-#[derive(Drop)]
 pub(crate) struct Desk<S: FloorStore, J: NodeRun> {
     /// The node, and its book if its steps are recorded. None once an entry could not be added to
     /// the history, which never happens.
@@ -43,6 +42,19 @@ pub(crate) struct Desk<S: FloorStore, J: NodeRun> {
     pub(crate) retention: Retention,
     /// How many pages of the book are full.
     pub(crate) pages: u32,
+}
+
+impl<S: FloorStore + Drop, J: NodeRun> Drop for Desk<S, J> {
+    fn drop(self) {
+        let Desk {
+            steps: _,
+            whole: _,
+            places: _,
+            octets: _,
+            retention: _,
+            pages: _,
+        } = self;
+    }
 }
 
 impl<S: FloorStore, J: NodeRun> Model for Desk<S, J> {

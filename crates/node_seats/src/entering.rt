@@ -78,12 +78,37 @@ pub(crate) fn enter_recorded<S: FloorStore, J: NodeRun>(
 }
 
 /// A step that was taken, of which no entry is kept. Its event was moved on: only proofs have it.
-#[derive(Drop)]
 struct StepTaken {
     seat: u8,
     place: u64,
     event: Kept<Event<()>>,
     outcome: Outcome,
+}
+
+impl Drop for StepTaken {
+    fn drop(self) {
+        let StepTaken {
+            seat: _,
+            place: _,
+            event: _,
+            outcome: _,
+        } = self;
+    }
+}
+
+impl StepTaken {
+    /// The outcome alone.
+    fn into_outcome(self) -> Outcome
+        ensures { result ≡ self.outcome }
+    {
+        let StepTaken {
+            seat: _,
+            place: _,
+            event: _,
+            outcome,
+        } = self;
+        outcome
+    }
 }
 
 /// The entry of a step that was taken.
@@ -126,5 +151,5 @@ pub(crate) fn enter_alone<S: FloorStore, J: NodeRun>(
     if !whole.add::<StepTaken, Entered>(seat, &taken) {
         return None;
     }
-    Some(taken.outcome)
+    Some(taken.into_outcome())
 }

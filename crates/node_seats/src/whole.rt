@@ -12,12 +12,21 @@ use values_history::{Entry, Front, Head};
 /// The whole history of a node, and how many entries of it each seat has.
 ///
 /// A contract sees its entries.
-#[derive(Drop)]
 pub(crate) struct Whole<J: NodeRun> {
     head: Head<NodeEntry, J>,
     front: Front<NodeEntry, J>,
     /// The number of entries of each seat, by the seat's number.
     counts: Vec<u64>,
+}
+
+impl<J: NodeRun> Drop for Whole<J> {
+    fn drop(self) {
+        let Whole {
+            head: _,
+            front: _,
+            counts: _,
+        } = self;
+    }
 }
 
 impl<J: NodeRun> Model for Whole<J> {

@@ -25,10 +25,18 @@ enum Stand {
 }
 
 /// The handshake between a node's thread and the thread that holds the node.
-#[derive(Drop)]
 pub(crate) struct Halt {
     stand: Mutex<Stand>,
     has_moved: Condvar,
+}
+
+impl Drop for Halt {
+    fn drop(self) {
+        let Halt {
+            stand: _,
+            has_moved: _,
+        } = self;
+    }
 }
 
 impl Halt {

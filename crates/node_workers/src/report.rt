@@ -3,10 +3,18 @@ use crate::fault::Unready;
 use std::sync::{Condvar, Mutex, Wait};
 
 /// What a node's thread tells the thread that started it.
-#[derive(Drop)]
 pub(crate) struct Report {
     told: Mutex<Option<Result<(), Unready>>>,
     has_told: Condvar,
+}
+
+impl Drop for Report {
+    fn drop(self) {
+        let Report {
+            told: _,
+            has_told: _,
+        } = self;
+    }
 }
 
 impl Report {

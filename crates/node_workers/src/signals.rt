@@ -12,7 +12,6 @@ use std::sync::{Arc, Wait};
 /// What a node's thread and the thread that started it share: whether the node is to stop, how its
 /// start went, whether it is held, whether it is closed, how its peers answer, whether it lacks
 /// descriptors, and how many requests it has refused.
-#[derive(Drop)]
 pub(crate) struct Signals {
     /// Whether the node is to stop.
     pub(crate) is_stopped: Arc<AtomicBool, Global>,
@@ -28,6 +27,20 @@ pub(crate) struct Signals {
     pub(crate) has_lacked: Arc<AtomicBool, Global>,
     /// How many requests were answered by a 503 of the member itself.
     pub(crate) refused: Arc<AtomicU64, Global>,
+}
+
+impl Drop for Signals {
+    fn drop(self) {
+        let Signals {
+            is_stopped: _,
+            report: _,
+            halt: _,
+            closing: _,
+            peers: _,
+            has_lacked: _,
+            refused: _,
+        } = self;
+    }
 }
 
 impl Signals {

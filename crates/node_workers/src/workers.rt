@@ -44,10 +44,18 @@ pub struct Ground<S: FloorStore> {
 }
 
 /// A running node: its thread, its sockets and its workers.
-#[derive(Drop)]
 pub struct Workers {
     node: JoinHandle<Result<Option<Record>, StopFault>>,
     signals: Signals,
+}
+
+impl Drop for Workers {
+    fn drop(self) {
+        let Workers {
+            node: _,
+            signals: _,
+        } = self;
+    }
 }
 
 /// Opens a node.
@@ -314,6 +322,7 @@ impl Workers {
     /// the record is lost then.
     pub fn stop<R: Threads + Wait>(self, rt: &R) -> Result<Option<Record>, StopFault> {
         self.begin_stop(rt);
-        self.node.join(rt)
+        let Workers { node, signals: _ } = self;
+        node.join(rt)
     }
 }

@@ -6,7 +6,6 @@ use std::alloc::{AllocError, Global};
 use url_key::Key;
 
 /// A stored response to a GET of one URL. [Copy 1]
-#[derive(Drop)]
 pub struct WebCopy<T> {
     /// The key of the URL.
     pub key: Key,
@@ -21,6 +20,19 @@ pub struct WebCopy<T> {
     pub answer: Answer,
     /// A mark for proofs, which a store carries and never looks at.
     pub tag: T,
+}
+
+impl<T: Drop> Drop for WebCopy<T> {
+    fn drop(self) {
+        let WebCopy {
+            key: _,
+            stamp: _,
+            asked: _,
+            lifetime: _,
+            answer: _,
+            tag: _,
+        } = self;
+    }
 }
 
 impl<T: Copy> WebCopy<T> {

@@ -17,7 +17,7 @@ use std::mem::replace;
 pub const MOST_ENTRIES: usize = 4096;
 
 /// An entry of the book: a call, and what it returned.
-#[derive(Debug, Drop)]
+#[derive(Debug)]
 pub struct MasterEntry {
     /// The place of the call, as its caller counts places.
     pub place: u64,
@@ -27,14 +27,33 @@ pub struct MasterEntry {
     pub answer: Result<MasterAnswer, MasterFault>,
 }
 
+impl Drop for MasterEntry {
+    fn drop(self) {
+        let MasterEntry {
+            place: _,
+            call: _,
+            answer: _,
+        } = self;
+    }
+}
+
 /// A master with a book: each call is entered with its place and what it returned, in order.
 ///
 /// A contract sees the master and the entries, at most 4,096.
-#[derive(Drop)]
 pub struct MasterBook<S: PurgeStore> {
     alloc: Global,
     master: Master<S>,
     entries: Vec<MasterEntry>,
+}
+
+impl<S: PurgeStore + Drop> Drop for MasterBook<S> {
+    fn drop(self) {
+        let MasterBook {
+            alloc: _,
+            master: _,
+            entries: _,
+        } = self;
+    }
 }
 
 impl<S: PurgeStore> Model for MasterBook<S> {
@@ -139,6 +158,11 @@ impl<S: PurgeStore> MasterBook<S> {
     pub fn into_master(self) -> Master<S>
         ensures { result ≡ self.master }
     {
-        self.master
+        let MasterBook {
+            alloc: _,
+            master: kept,
+            entries: _,
+        } = self;
+        kept
     }
 }

@@ -23,7 +23,6 @@ use values_plain::Listed;
 ///
 /// A contract sees its nodes, its state (the purges, and whether it is closed) and its store.
 /// While it is open, no call of its store has failed, and an honest store has committed its purges.
-#[derive(Drop)]
 pub struct Master<S: PurgeStore> {
     pub(crate) alloc: Global,
     // the nodes of the roster
@@ -33,6 +32,34 @@ pub struct Master<S: PurgeStore> {
     // a write failed in the store
     pub(crate) closed: bool,
     pub(crate) store: S,
+}
+
+impl<S: PurgeStore + Drop> Drop for Master<S> {
+    fn drop(self) {
+        let Master {
+            alloc: _,
+            nodes: _,
+            purges: _,
+            closed: _,
+            store: _,
+        } = self;
+    }
+}
+
+impl<S: PurgeStore> Master<S> {
+    /// The store alone.
+    pub(crate) fn store_alone(self) -> S
+        ensures { result ≡ self.store }
+    {
+        let Master {
+            alloc: _,
+            nodes: _,
+            purges: _,
+            closed: _,
+            store,
+        } = self;
+        store
+    }
 }
 
 impl<S: PurgeStore> Model for Master<S> {

@@ -91,6 +91,6 @@ impl<S: PurgeStore> Master<S> {
         ensures tied { IsTied self.state.closed self.state.purges (S.is_usable self.store)
             (S.is_honest self.store) (S.content self.store) }
     {
-        self.store
+        self.store_alone()
     }
 }

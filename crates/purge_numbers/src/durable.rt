@@ -21,7 +21,6 @@ use url_key::Key;
 /// A contract sees the connection, the copy, whether no call has failed, and how many calls have
 /// returned `StoreFault`. While no call has failed and the disk is honest, the copy is what the
 /// last commit left.
-#[derive(Drop)]
 pub struct SqliteFloors<S: Alter> {
     conn: Connection<S>,
     // the copy of what is committed
@@ -30,6 +29,17 @@ pub struct SqliteFloors<S: Alter> {
     is_usable: bool,
     // how many calls have returned `StoreFault`
     failures: u64,
+}
+
+impl<S: Alter + Drop> Drop for SqliteFloors<S> {
+    fn drop(self) {
+        let SqliteFloors {
+            conn: _,
+            floors: _,
+            is_usable: _,
+            failures: _,
+        } = self;
+    }
 }
 
 impl<S: Alter> Model for SqliteFloors<S> {
@@ -103,12 +113,12 @@ impl<S: Alter> SqliteFloors<S> {
         ensures { result ≡ self.conn }
     {
         let SqliteFloors {
-            conn,
+            conn: connection,
             floors: _,
             is_usable: _,
             failures: _,
         } = self;
-        conn
+        connection
     }
 }
 

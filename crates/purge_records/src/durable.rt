@@ -20,7 +20,6 @@ use url_key::Key;
 /// A contract sees the connection, the copy, whether no call has failed, and how many calls have
 /// returned `StoreFault`. While no call has failed and the disk is honest, the copy is what the
 /// last commit left.
-#[derive(Drop)]
 pub struct SqlitePurges<S: Alter> {
     conn: Connection<S>,
     // the copy of what is committed
@@ -29,6 +28,17 @@ pub struct SqlitePurges<S: Alter> {
     is_usable: bool,
     // how many calls have returned `StoreFault`
     failures: u64,
+}
+
+impl<S: Alter + Drop> Drop for SqlitePurges<S> {
+    fn drop(self) {
+        let SqlitePurges {
+            conn: _,
+            purges: _,
+            is_usable: _,
+            failures: _,
+        } = self;
+    }
 }
 
 impl<S: Alter> Model for SqlitePurges<S> {
@@ -108,12 +118,12 @@ impl<S: Alter> SqlitePurges<S> {
         ensures { result ≡ self.conn }
     {
         let SqlitePurges {
-            conn,
+            conn: connection,
             purges: _,
             is_usable: _,
             failures: _,
         } = self;
-        conn
+        connection
     }
 }
 

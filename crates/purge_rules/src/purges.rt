@@ -48,7 +48,7 @@ pub struct Admission {
 /// A contract sees these three (`PurgeList`). The numbers of the pending purges ascend, and so do
 /// those of the admissions. They are at least 1 and at most the last number, no number is of both,
 /// and no two admissions are of one node (`AreNumbered`).
-#[derive(Debug, Drop)]
+#[derive(Debug)]
 pub struct Purges {
     // the last number that was given, 0 if none was
     last: u32,
@@ -56,6 +56,16 @@ pub struct Purges {
     pending: Vec<Purge>,
     // pending or done, by number
     admissions: Vec<Admission>,
+}
+
+impl Drop for Purges {
+    fn drop(self) {
+        let Purges {
+            last: _,
+            pending: _,
+            admissions: _,
+        } = self;
+    }
 }
 
 impl Model for Purges {

@@ -48,12 +48,22 @@ pub(crate) struct Posts {
 
 /// The state of a run: each node's standing, the master's purges, and what was sent. `keys` are the
 /// keys of the hashes by which nodes find their copies.
-#[derive(Drop)]
 pub(crate) struct Board<'a> {
     keys: RandomState,
     posts: Posts,
     ledger: Ledger,
     network: Network<'a>,
+}
+
+impl<'a> Drop for Board<'a> {
+    fn drop(self) {
+        let Board {
+            keys: _,
+            posts: _,
+            ledger: _,
+            network: _,
+        } = self;
+    }
 }
 
 /// The index of the node with this id, if it has records.

@@ -85,8 +85,8 @@ fn closed_by(
     let state = node.state()?;
     Ok(Standing::Shut(ClosedNode {
         floors: stored(alloc, node.into_floors(), raise, kept)?,
-        copies: state.copies,
         next: state.next,
+        copies: state.into_copies(),
     }))
 }
 

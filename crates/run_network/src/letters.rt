@@ -41,11 +41,20 @@ pub struct Acknowledgement {
 /// CLR. Others are not held, since nobody looks for them.
 ///
 /// A contract sees them by `HasLetter` and `HasAcknowledged`.
-#[derive(Drop)]
 pub struct Letters {
     keys: RandomState,
     bags: Bags<Letter>,
     acknowledged: Bags<Acknowledgement>,
+}
+
+impl Drop for Letters {
+    fn drop(self) {
+        let Letters {
+            keys: _,
+            bags: _,
+            acknowledged: _,
+        } = self;
+    }
 }
 
 /// Whether a datagram is this one.

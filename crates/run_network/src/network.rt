@@ -21,12 +21,22 @@ use url_key::Key;
 /// All that was sent in a run so far, and the members' requests that wait.
 ///
 /// A contract sees which network of `run_rules` it holds, by `Holds`: all of it, and nothing else.
-#[derive(Drop)]
 pub struct Network<'a> {
     letters: Letters,
     asks: Asks<'a>,
     answers: Answers<'a>,
     waits: Waits<'a>,
+}
+
+impl<'a> Drop for Network<'a> {
+    fn drop(self) {
+        let Network {
+            letters: _,
+            asks: _,
+            answers: _,
+            waits: _,
+        } = self;
+    }
 }
 
 /// The serial with which something begins.

@@ -5,9 +5,15 @@ use std::marker::Model;
 /// Items in order. They do not change. One alone takes no memory beside its own.
 ///
 /// A contract sees them as a list.
-#[derive(Debug, Drop)]
+#[derive(Debug)]
 pub struct Listed<T> {
     items: Items<T>,
+}
+
+impl<T: Drop> Drop for Listed<T> {
+    fn drop(self) {
+        let Listed { items: _ } = self;
+    }
 }
 
 /// One item, or any number of them.

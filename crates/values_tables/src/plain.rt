@@ -62,7 +62,7 @@ pub struct Cache {
 }
 
 /// A cache of the hierarchy, and the peers that it asks.
-#[derive(Debug, Drop)]
+#[derive(Debug)]
 pub struct Member {
     /// The cache.
     pub cache: Cache,
@@ -71,6 +71,16 @@ pub struct Member {
     pub joins: bool,
     /// Its peers, in the order in which it asks them.
     pub peers: Listed<Peer>,
+}
+
+impl Drop for Member {
+    fn drop(self) {
+        let Member {
+            cache: _,
+            joins: _,
+            peers: _,
+        } = self;
+    }
 }
 
 /// An origin server, by the host and the port that URLs name.
@@ -113,7 +123,7 @@ pub struct Limits {
 }
 
 /// What the text of a roster says.
-#[derive(Debug, Drop)]
+#[derive(Debug)]
 pub struct Tables {
     /// The limits of each node.
     pub limits: Limits,
@@ -125,4 +135,16 @@ pub struct Tables {
     pub foreign: Listed<Cache>,
     /// The origin servers, in the order of the text.
     pub origins: Listed<Origin>,
+}
+
+impl Drop for Tables {
+    fn drop(self) {
+        let Tables {
+            limits: _,
+            master: _,
+            members: _,
+            foreign: _,
+            origins: _,
+        } = self;
+    }
 }

@@ -9,7 +9,6 @@ use thiserror::Error;
 
 /// What an applied event did. What was sent stands as numbers: `World::datagrams` of
 /// `hierarchy_world` lists the datagrams.
-#[derive(Drop)]
 pub struct Outcome {
     /// What a member serves. A copy's tag is its mark.
     pub serve: Option<Serve<u64>>,
@@ -31,6 +30,23 @@ pub struct Outcome {
     pub read: Option<u32>,
     /// Why the member or the master refused the event, if it did.
     pub fault: Option<ActorFault>,
+}
+
+impl Drop for Outcome {
+    fn drop(self) {
+        let Outcome {
+            serve: _,
+            answer: _,
+            purge: _,
+            admitted: _,
+            status: _,
+            round: _,
+            sent: _,
+            ask: _,
+            read: _,
+            fault: _,
+        } = self;
+    }
 }
 
 /// Why a member or the master refused an event.
