@@ -1,5 +1,5 @@
 -- The order of the queue's steps, and what a pass knows of it.
-use Rattle.std.specs.Prelude.{◌≡◌, ℕ, Bool, List, [], ◌∷◌, ◌++◌, length, nat_le, if◌then◌else◌}
+use Rattle.std.specs.Prelude.{◌≡◌, ℕ, Bool, List, [], ◌∷◌, ◌++◌, length, map, nat_le, if◌then◌else◌}
 use Rattle.cluster_jobs.specs.declared.job.Job.{Job}
 use Rattle.cluster_jobs.specs.declared.job.Job.TheVariants as job
 use Rattle.cluster_jobs.specs.declared.job.Lane.{Lane}
@@ -61,6 +61,22 @@ IsEmpty steps = Leaves steps []
 -- after these steps the lane holds 256 jobs
 abbrev pub IsFull : Lane → List Step → Type 0
 IsFull lane steps = (waiting : List Sight) × Leaves steps waiting × (length (in_lane lane waiting) ≡ 256)
+
+-- the jobs in the queue are these, as contracts see them
+abbrev pub Are : List Sight → List Job → Type 0
+Are waiting jobs = map sight_of jobs ≡ waiting
+
+-- the queue has one pass, which knows the jobs in it
+abbrev pub IsKnown : List Job → List (List Sight) → Type 0
+IsKnown jobs known = known ≡ map sight_of jobs ∷ []
+
+-- a job that is put waits behind the others
+abbrev pub Joins : List Sight → Job → List Sight → Type 0
+Joins before job after = after ≡ before ++ sight_of job ∷ []
+
+-- a job that is taken was the first
+abbrev pub Goes : List Sight → Job → List Sight → Type 0
+Goes before job after = before ≡ sight_of job ∷ after
 
 -- the queue under its lock: all steps so far, and whether it is ended
 pub record BacklogView : Type 0 where

@@ -5,9 +5,9 @@ ghost use Rattle.cluster_jobs.specs.Lanes.{lane_of};
 ghost use Rattle.cluster_jobs.specs.Order.{put, took, sight_of, Adds, IsEmpty, IsFull, IsInOrder};
 
 use crate::job::{Job, LANES};
-use crate::order::{Puts, Step, Takes};
+use crate::order::{Exact, Puts, Step, Takes, Waiting};
+use crossbeam_queue::RuledArrayQueue;
 use std::alloc::{AllocError, Global};
-use std::collections::VecDeque;
 use std::marker::Model;
 use std::sync::Wait;
 use values_history::{Entry, Front, Head, Own, Run};
@@ -21,7 +21,9 @@ const MOST_JOBS: usize = LANES * CAPACITY;
 /// The jobs that wait, first in, first out, with the history of all steps. A contract sees the
 /// steps, and whether the queue is ended.
 pub(crate) struct Backlog<Q: Run> {
-    jobs: VecDeque<Job>,
+    jobs: RuledArrayQueue<Job, Waiting, Exact>,
+    /// The one pass of these jobs.
+    pass: crossbeam_queue::Pass<Job, Waiting>,
     /// How many jobs of each lane wait, by the lane's place.
     counts: Vec<usize>,
     head: Head<Step, Q>,
@@ -33,6 +35,7 @@ impl<Q: Run> Drop for Backlog<Q> {
     fn drop(self) {
         let Backlog {
             jobs: _,
+            pass: _,
             counts: _,
             head: _,
             front: _,
@@ -42,17 +45,18 @@ impl<Q: Run> Drop for Backlog<Q> {
 }
 
 impl<Q: Run> Model for Backlog<Q> {
-    ghost use Rattle.std.specs.Prelude.{◌≡◌, ◌≤◌, length, map};
-    ghost use Rattle.std.specs.VecDeque.{deque_capacity};
-    ghost use Rattle.cluster_jobs.specs.Order.{BacklogView, IsInOrder, Leaves, sight_of};
+    ghost use Rattle.std.specs.Prelude.{◌≡◌};
+    ghost use Rattle.crossbeam_queue.specs.Passes.{view as known, ruled_capacity, IsPassOf};
+    ghost use Rattle.cluster_jobs.specs.Order.{BacklogView, IsInOrder, Leaves};
     ghost use Rattle.cluster_jobs.specs.Lanes.{AreCounts};
 
     ghost Value = { BacklogView };
 
     ghost view = { λ b. record { seen = b.front; over = b.is_over } };
 
-    ghost invariant = { λ b. IsInOrder b.front × Leaves b.front (map sight_of b.jobs.items)
-        × AreCounts b.counts.items (map sight_of b.jobs.items) × (1536 ≤ deque_capacity b.jobs) };
+    ghost invariant = { λ b. IsInOrder b.front × Leaves b.front (known b.pass)
+        × AreCounts b.counts.items (known b.pass) × IsPassOf b.jobs b.pass
+        × (ruled_capacity b.jobs ≡ 1536) };
 }
 
 /// Adds the step of a job to the history, of which the front is the whole, and to the own steps of
@@ -103,8 +107,10 @@ impl<Q: Run> Backlog<Q> {
     {
         let mut counts = Vec::new(alloc);
         counts.resize(LANES, 0)?;
+        let (jobs, pass) = RuledArrayQueue::ruled(alloc, MOST_JOBS)?;
         Ok(Backlog {
-            jobs: VecDeque::with_capacity(alloc, MOST_JOBS)?,
+            jobs,
+            pass,
             counts,
             head,
             front,
@@ -134,8 +140,11 @@ impl<Q: Run> Backlog<Q> {
         }
         add::<Puts, Q, R>(rt, &self.head, &mut self.front, own, &job);
         self.counts[place] += 1;
-        self.jobs.push_back_reserved(job);
-        Ok(())
+        // (there is room, since this lane has fewer than 256 and no other has more)
+        match self.jobs.push_as::<Puts, R>(rt, &mut self.pass, job) {
+            Ok(()) => Ok(()),
+            Err(_) => unreachable!(),
+        }
     }
 
     /// Takes out the job that has waited longest. There is none, and nothing changes, exactly where
@@ -145,7 +154,7 @@ impl<Q: Run> Backlog<Q> {
             ((self.new ≡ self.old) × (own.new ≡ own.old) × IsEmpty self.old.seen)
             (λ job. Adds (took job) self.old own.old self.new own.new) }
     {
-        let job = self.jobs.pop_front()?;
+        let job = self.jobs.pop_as::<Takes, R>(rt, &mut self.pass)?;
         add::<Takes, Q, R>(rt, &self.head, &mut self.front, own, &job);
         self.counts[job.lane().place()] -= 1;
         Some(job)
@@ -166,9 +175,10 @@ impl<Q: Run> Backlog<Q> {
     }
 
     /// Whether a thread that wants a job has to wait: none is there, and the queue is not ended.
-    pub(crate) fn waits(&self) -> bool
-        ensures { IsTrue result → IsEmpty self.now.seen × (self.now.over ≡ false) }
+    pub(crate) fn waits(&mut self) -> bool
+        ensures same { self.new ≡ self.old }
+        ensures none { IsTrue result → IsEmpty self.old.seen × (self.old.over ≡ false) }
     {
-        self.jobs.is_empty() && !self.is_over
+        self.jobs.is_empty_as::<Takes>(&mut self.pass) && !self.is_over
     }
 }

@@ -2,12 +2,13 @@
 //!
 //! The thread of the event loop puts each [`Job`]: a datagram, a connection whose request head has
 //! come, the timeout of a round of queries, or a fetch that has ended or failed. Workers take the
-//! jobs. [`Jobs`] is first in, first out, under one lock. Each [`Lane`] has room for 256 jobs of
-//! its own ([`CAPACITY`]): what comes from the master, from peers and from anybody else waits
-//! apart, and so do connections, timers and fetches. So a flood of one kind drops no job of
-//! another. [`Jobs::put`] does not wait for space: where a lane is full it gives the job back.
+//! jobs. [`Jobs`] is first in, first out: a queue of `crossbeam_queue` that lies under one lock,
+//! with the one pass that its rule admits. Each [`Lane`] has room for 256 jobs of its own
+//! ([`CAPACITY`]): what comes from the master, from peers and from anybody else waits apart, and so
+//! do connections, timers and fetches. So a flood of one kind drops no job of another.
+//! [`Jobs::put`] does not wait for space: where a lane is full it gives the job back.
 //! [`Jobs::take`] does not wait for a job: where none is there it gives none; [`Jobs::wait`] waits
-//! for one.
+//! for one. The places of all lanes are allocated when the queue is made: no put or take allocates.
 //!
 //! Each thread carries a [`Pass`]. A contract sees it as what the thread knows: the puts and takes
 //! that it has seen (`seen`), in the order in which they happened, and its own among them (`own`).

@@ -2,6 +2,7 @@
 //! of them is made.
 use crate::job::{Job, Sender};
 use cluster_fetch::Fetched;
+use crossbeam_queue::protocol::{Lesson, Outcome, Protocol};
 use std::collections::LinkedList;
 use values_history::Entry;
 use values_plain::{Address, Udp};
@@ -45,4 +46,43 @@ impl Entry<Job, Step> for Takes {
     ghost use Rattle.cluster_jobs.specs.Order.{took};
 
     ghost of = { took };
+}
+
+/// The jobs that wait, the one that has waited longest first.
+pub(crate) type Waiting = LinkedList<Sight>;
+
+/// The rule of the queue in which the jobs wait: it has one pass, which knows exactly these jobs.
+pub(crate) struct Exact;
+
+impl Protocol<Job, Waiting> for Exact {
+    ghost use Rattle.std.specs.Prelude.{[]};
+    ghost use Rattle.cluster_jobs.specs.Order.{IsKnown};
+
+    ghost holds = { IsKnown };
+
+    ghost first = { [] };
+}
+
+impl Outcome<Job, Waiting> for Puts {
+    ghost use Rattle.cluster_jobs.specs.Order.{Joins};
+
+    ghost then = { Joins };
+}
+
+impl Lesson<Job, Waiting> for Puts {
+    ghost use Rattle.cluster_jobs.specs.Order.{Are};
+
+    ghost fact = { Are };
+}
+
+impl Outcome<Job, Waiting> for Takes {
+    ghost use Rattle.cluster_jobs.specs.Order.{Goes};
+
+    ghost then = { Goes };
+}
+
+impl Lesson<Job, Waiting> for Takes {
+    ghost use Rattle.cluster_jobs.specs.Order.{Are};
+
+    ghost fact = { Are };
 }
