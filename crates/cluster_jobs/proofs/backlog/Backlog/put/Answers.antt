@@ -1,4 +1,4 @@
-use Rattle.std.proofs.Common.{◌≡◌, ◌++◌, ◌∷◌, ◌∙◌, [], slice_index_or, refl, ap, arith}
+use Rattle.std.proofs.Common.{◌≡◌, ◌++◌, ◌∷◌, ◌∙◌, [], slice_index_or, ap, arith}
 use Rattle.crossbeam_queue.specs.Passes.{view as known}
 use Rattle.cluster_jobs.specs.declared.order.Step.TheVariants.{Put}
 use Rattle.cluster_jobs.specs.Lanes.{lane_of, place_of}

@@ -1,4 +1,4 @@
-use Rattle.std.proofs.Common.{◌≡◌, ◌∷◌, ◌∙◌, slice_index_or, ap, subst, arith}
+use Rattle.std.proofs.Common.{◌≡◌, ◌∷◌, ◌∙◌, slice_index_or, ap, subst}
 use Rattle.crossbeam_queue.specs.Passes.{view as known}
 use Rattle.cluster_jobs.specs.declared.order.Step.TheVariants.{Took}
 use Rattle.cluster_jobs.specs.Lanes.{AreCounts, lane_of, place_of}
