@@ -2,8 +2,8 @@
 //! file of form 1, a file with an open transaction, and files that stop.
 mod stops;
 
-use super::calls::{add, admission_at, admit, counts, is_marked, loaded, mark};
-use super::disks::{FORM, VERSION, made_by};
+use crate::calls::{add, admission_at, admit, counts, is_marked, loaded, mark};
+use crate::disks::{FORM, VERSION, made_by};
 use purge_records::SqlitePurges;
 use purge_rules::{Admission, PurgeFault, PurgeStore};
 use sqlite::{Connection, MemStore};

@@ -1,5 +1,5 @@
 //! Members and purges, in worked rows.
-use super::calls::{add, admission_at, admit, counts, is_marked, loaded, mark};
+use crate::calls::{add, admission_at, admit, counts, is_marked, loaded, mark};
 use htcp_wire::fits;
 use purge_rules::{
     Admission, MemberSet, MemoryPurges, Nodes, PurgeStore, Purges, Status, base_clear, clear,

@@ -2,7 +2,7 @@
 mod full;
 mod stops;
 
-use super::disks::{FORM, VERSION, made_by};
+use crate::disks::{FORM, VERSION, made_by};
 use floor_rules::{FloorFault, FloorStore, Floors, MemoryFloors};
 use purge_numbers::SqliteFloors;
 use sqlite::{Connection, MemStore};

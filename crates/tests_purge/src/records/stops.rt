@@ -2,9 +2,9 @@
 //!
 //! What is done with a store is written for any store below it: a proof then speaks of none in
 //! particular.
-use super::super::calls::{add, admit, loaded, mark};
-use super::super::disks::{Disks, FORM, VERSION, closed, connected, crashed, files, stopping};
 use super::{ACKS, LAST, PENDING};
+use crate::calls::{add, admit, loaded, mark};
+use crate::disks::{Disks, FORM, VERSION, closed, connected, crashed, files, stopping};
 use purge_records::SqlitePurges;
 use purge_rules::{PurgeFault, PurgeStore};
 use sqlite::{Alter, Connection, Files};

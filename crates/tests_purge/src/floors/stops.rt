@@ -3,8 +3,8 @@
 //!
 //! What is done with a store is written for any store below it: a proof then speaks of none in
 //! particular.
-use super::super::disks::{Disks, FORM, VERSION, closed, connected, crashed, files, stopping};
 use super::{FLOORS, floor, loaded, raise, raise_base};
+use crate::disks::{Disks, FORM, VERSION, closed, connected, crashed, files, stopping};
 use floor_rules::{FloorFault, FloorStore};
 use purge_numbers::SqliteFloors;
 use sqlite::{Alter, Connection, Files};
