@@ -2,6 +2,7 @@
 ghost use Rattle.std.specs.Prelude.{◌≡◌, ◌≤◌, ◌&&◌, ◌++◌, [], ◌∷◌, ℕ, List, OnOk, IfErr, false};
 ghost use Rattle.std.specs.Prelude.{true, MatchBool, vec_capacity};
 ghost use Rattle.roster.specs.Lookups.{is_member as is_member_of};
+ghost use Rattle.purge_rules.specs.Purges.{AreNumbered};
 ghost use Rattle.values_lines.specs.Lines.{is_long};
 ghost use Rattle.cluster_console.specs.Answering.{AppendsText, AnswersLine, AnswersTaken};
 ghost use Rattle.cluster_console.specs.Answering.{HasAnswered, is_over as is_over_by, ending_of};
@@ -384,6 +385,7 @@ impl<S: PurgeStore, C: Checker, R: Wait + Clock + Net> Player<'_, S, C, R> {
             × (text.new.items ≡ text.old.items ++ answer)) }
     {
         let purges = self.master.purges(self.rt)?;
+        are_numbered(&purges);
         self.tell_members(&purges, text)
     }
 
@@ -517,6 +519,14 @@ fn is_in(purges: &Purges, id: u8) -> bool
         .admissions()
         .iter()
         .any(|admission| admission.member == id && admission.is_done)
+}
+
+/// The numbers of purges and admissions ascend. It does nothing: its contract states what their
+/// type guarantees.
+fn are_numbered(purges: &Purges)
+    ensures { AreNumbered purges.now }
+{
+    let _last = purges.last();
 }
 
 /// Whether the member of this id joins, and no admission of it is done.

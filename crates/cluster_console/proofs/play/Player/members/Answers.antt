@@ -9,5 +9,5 @@ on_ok_then (Err e) then held = held
 
 pub returns : goal.returns
 returns g c =
-    let numbered : AreNumbered c.in_ok-purges.purges = subst AreNumbered c.purges-2.view_is c.purges-2.invariant in
+    let numbered : AreNumbered c.in_ok-purges.purges = c.are_numbered.ensures in
     on_ok_then c.tell_members.result (λ told. (told.0, (c.in_ok-purges.purges, numbered, told.1), told.2)) c.tell_members.ensures
